@@ -1,0 +1,25 @@
+-- The laws of the layer tables.
+pub mod Cases
+pub mod Runs
+pub mod Numbers
+pub mod Pieces
+pub mod NameLaws
+pub mod ItemLaws
+pub mod Determined
+pub mod Places
+pub mod EveryLaws
+pub mod CountLaws
+pub mod CountTally
+pub mod RuleLaws
+pub mod ReachLaws
+pub mod RuleDistinct
+pub mod RuleTheorem
+pub mod RuleWalks
+pub mod OrderLaws
+pub mod SortLaws
+pub mod PlaceLaws
+pub mod ChangeLaws
+pub mod Moves
+pub mod PieceMoves
+pub mod RuleOrder
+pub mod RuleFacts
