@@ -1,0 +1,27 @@
+use Rattle.merge.proofs.StateLaws.{order-parent-before, order-parent-after, order-by-name}
+use borrow.Author.Needs.{needs}
+use Rattle.merge.proofs.state.order_at.Statement.{statement}
+use Rattle.merge.proofs.state.order_at.Tie as tie
+
+parent-in-requires : tie.Need-parent-in-requires
+parent-in-requires c κs = search needs
+
+returns : tie.Need-returns
+returns c = search (order-parent-before, order-parent-after, order-by-name, needs)
+
+returns-2 : tie.Need-returns-2
+returns-2 c = search (order-parent-before, order-parent-after, order-by-name, needs)
+
+name-in-requires : tie.Need-name-in-requires
+name-in-requires c κs = search needs
+
+compare-requires : tie.Need-compare-requires
+compare-requires c κs = search needs
+
+returns-3 : tie.Need-returns-3
+returns-3 c = search (order-parent-before, order-parent-after, order-by-name, needs)
+
+pub order-at-spec : {M : Type 1} → statement M
+order-at-spec =
+    tie.close
+    (tie.spec parent-in-requires returns returns-2 name-in-requires compare-requires returns-3)

@@ -1,0 +1,147 @@
+// A node of the lent state changed, put in at its place by parent and name, and taken out.
+ghost use mathlib.Core.Path.{_≡_};
+ghost use Prim.Native.Nat.{_+_, _*_, _≤_, _<_};
+ghost use lib.ListN.{length, take, replicate};
+ghost use Rattle.layers.specs.Bytes.{over, part};
+ghost use Rattle.merge.specs.Nodes.{countOf, nodesOf};
+ghost use Rattle.merge.specs.State.{placeFor};
+ghost use Rattle.merge.specs.Changes.{putBytes, insertedBytes, takenBytes, spotFor, putInBytes, newNumber, newBytes};
+use crate::head;
+use crate::head::Head;
+use crate::node;
+use crate::node::Node;
+use crate::state;
+use layers::spots::Spot;
+
+// Every byte 0: a state that has no node.
+pub fn clear(s: &mut [u8])
+    ensures { λ _. ⌜ now (s .exit) ≡ replicate (length (now (s .entry))) 0 ⌝ }
+{
+    let mut i = 0;
+    while i < s.len() {
+        s[i] = 0;
+        i += 1;
+    }
+}
+
+// The node at place `j` changed; where there is none, nothing changes.
+pub fn put_node(s: &mut [u8], j: usize, n: Node)
+    ensures { λ _. ⌜ now (s .exit) ≡ putBytes (now (s .entry)) j n ⌝ }
+{
+    let c = head::count(s);
+    if c <= j {
+        return;
+    }
+    node::lay_node(s, 12 + 52 * j, n);
+}
+
+// ---- runs of bytes moved, as memmove does
+
+// The `n` bytes from `p` on, laid over those from `q` on, which stand no earlier.
+fn move_down(t: &mut [u8], p: usize, q: usize, n: usize)
+    requires { ⌜ (p ≤ q) × (q + n ≤ length (now t)) ⌝ }
+    ensures { λ _. ⌜ now (t .exit) ≡ over (now (t .entry)) q (part (now (t .entry)) p n) ⌝ }
+{
+    let mut i = n;
+    while 0 < i {
+        i -= 1;
+        t[q + i] = t[p + i];
+    }
+}
+
+// The `n` bytes from `q` on, laid over those from `p` on, which stand no later.
+fn move_up(t: &mut [u8], p: usize, q: usize, n: usize)
+    requires { ⌜ (p ≤ q) × (q + n ≤ length (now t)) ⌝ }
+    ensures { λ _. ⌜ now (t .exit) ≡ over (now (t .entry)) p (part (now (t .entry)) q n) ⌝ }
+{
+    let mut i = 0;
+    while i < n {
+        t[p + i] = t[q + i];
+        i += 1;
+    }
+}
+
+// ---- a node put in
+
+// The place of a node of parent `p` whose name is the first `l` bytes of `x`.
+fn place_named(s: &[u8], p: u32, x: [u8; 28], l: u8) -> Spot
+    ensures { λ r. ⌜ r ≡ placeFor (nodesOf (now (s .entry))) p (take l x) ⌝ }
+{
+    let n = layers::bytes::wide(l);
+    if 28 < n {
+        return state::place(s, p, &x);
+    }
+    let a = 0;
+    state::place(s, p, &x[a..n])
+}
+
+// The place for the node, where a further one fits and its parent has none of its name.
+pub fn spot_for(s: &[u8], n: Node) -> Spot
+    ensures { λ r. ⌜ r ≡ spotFor (now (s .entry)) n ⌝ }
+{
+    if head::is_full(s) {
+        return Spot::Taken;
+    }
+    let x = n.name;
+    place_named(s, n.parent, x, n.length)
+}
+
+fn insert(s: &mut [u8], k: usize, n: Node, h: Head)
+    requires { ⌜ (k ≤ countOf (now s)) × (52 * countOf (now s) + 64 ≤ length (now s)) ⌝ }
+    ensures { λ _. ⌜ now (s .exit) ≡ insertedBytes (now (s .entry)) k n h ⌝ }
+{
+    let c = head::count(s);
+    let a = 12 + 52 * k;
+    move_down(s, a, a + 52, 52 * (c - k));
+    node::lay_node(s, a, n);
+    head::put_head(s, h);
+}
+
+// The node put in at its place; where none is left, or its parent has one of its name, nothing changes.
+pub fn put_in(s: &mut [u8], n: Node)
+    ensures { λ _. ⌜ now (s .exit) ≡ putInBytes (now (s .entry)) n ⌝ }
+{
+    let f = spot_for(s, n);
+    let Spot::Free(k) = f else {
+        return;
+    };
+    let h = head::head_of(s).more();
+    insert(s, k, n, h);
+}
+
+// The node put in at its place with the next number, which is answered; 0 where no number or no place is left.
+pub fn put_new(s: &mut [u8], n: Node) -> u32
+    ensures { λ r. ⌜ (r ≡ newNumber (now (s .entry)) n) × (now (s .exit) ≡ newBytes (now (s .entry)) n) ⌝ }
+{
+    let x = head::next_number(s);
+    if 4294967295 < x {
+        return 0;
+    }
+    let f = spot_for(s, n);
+    let Spot::Free(k) = f else {
+        return 0;
+    };
+    let h = head::head_of(s).more().numbered();
+    let m = n.with_number(x as u32);
+    insert(s, k, m, h);
+    x as u32
+}
+
+// ---- a node taken out
+
+// The node at place `k` taken out; where there is none, nothing changes.
+pub fn take_out(s: &mut [u8], k: usize)
+    ensures { λ _. ⌜ now (s .exit) ≡ takenBytes (now (s .entry)) k ⌝ }
+{
+    let c = head::count(s);
+    if c <= k {
+        return;
+    }
+    let h = head::head_of(s).fewer();
+    let a = 12 + 52 * k;
+    let n = 52 * (c - 1 - k);
+    let z = [0u8; 52];
+    move_up(s, a, a + 52, n);
+    layers::bytes::lay(s, a + n, &z);
+    head::put_head(s, h);
+}
