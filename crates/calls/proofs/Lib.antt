@@ -1,0 +1,22 @@
+-- The laws of the calls.
+pub mod DirentLaws
+pub mod TestLaws
+pub mod ParentLaws
+pub mod ListingLaws
+pub mod PageLaws
+pub mod ChildLaws
+pub mod PageBounds
+pub mod WholeLaws
+pub mod ListCallLaws
+pub mod PageRuns
+pub mod ListingOrder
+pub mod PageValues
+pub mod WholeCase
+pub mod LoadingLaws
+pub mod LookupLaws
+pub mod CountLaws
+pub mod ImportLaws
+pub mod NodeLaws
+pub mod RootLaws
+pub mod CallFacts
+pub mod FaceLaws

@@ -1,0 +1,63 @@
+// The node that a call names by its number, and whether it is a live directory.
+ghost use mathlib.Core.Path.{_≡_};
+ghost use Rattle.calls.specs.Refusal.{afterTests};
+ghost use Rattle.calls.specs.Parents.{isWhite, isDirectoryNode, parentTests, placeNumbered, loadTests};
+ghost use Rattle.calls.specs.declared.refusal.Answer.the-variants.{Fine};
+ghost use Rattle.merge.specs.Load.{loadBytes};
+use crate::refusal::Answer;
+use crate::refusal::Refusal;
+use layers::search::Found;
+use merge::load;
+use merge::load::Loading;
+use merge::node::Node;
+use merge::scan;
+use merge::state;
+use merge::tables;
+
+pub fn is_white(n: Node) -> bool
+    ensures { λ b. ⌜ b ≡ isWhite n ⌝ }
+{
+    n.white != 0
+}
+
+// A node is a directory where its top record is one.
+pub fn is_directory<'a>(upper: &'a [u8], lower: &'a [u8], n: Node) -> bool
+    ensures { λ b. ⌜ b ≡ isDirectoryNode (now (upper .entry)) (now (lower .entry)) n ⌝ }
+{
+    if n.depth == 0 {
+        return false;
+    }
+    let a = n.stack;
+    let p = a[0];
+    let t = tables::table_at(upper, lower, layers::bytes::wide(p.layer));
+    scan::is_walked(t, p.number)
+}
+
+// The place of the live directory of number `x`: 2 unknown, 2 whiteout, 20.
+pub fn parent_place<'a>(s: &[u8], upper: &'a [u8], lower: &'a [u8], x: u64) -> Answer
+    ensures { λ r. ⌜ r ≡ afterTests (parentTests (now (upper .entry)) (now (lower .entry)) (now (s .entry)) x) (Fine (placeNumbered (now (s .entry)) x)) ⌝ }
+{
+    let f = state::find(s, x);
+    let Found::At(k) = f else {
+        return Answer::Refused(Refusal::Enoent);
+    };
+    let n = state::node_at(s, k);
+    if is_white(n) {
+        return Answer::Refused(Refusal::Enoent);
+    }
+    if is_directory(upper, lower, n) {
+        return Answer::Fine(k);
+    }
+    Answer::Refused(Refusal::Enotdir)
+}
+
+// Loads the directory whose node stands at place `k`; where places or numbers don't suffice, 23.
+pub fn load_at<'a>(s: &mut [u8], upper: &'a [u8], lower: &'a [u8], k: usize) -> Answer
+    ensures { λ r. ⌜ (r ≡ afterTests (loadTests (now (upper .entry)) (now (lower .entry)) (now (s .entry)) k) (Fine k)) × (now (s .exit) ≡ loadBytes (now (upper .entry)) (now (lower .entry)) (now (s .entry)) k) ⌝ }
+{
+    let a = load::load_directory(s, upper, lower, k);
+    match a {
+        Loading::Done => Answer::Fine(k),
+        Loading::NoRoom => Answer::Refused(Refusal::Enfile),
+    }
+}
