@@ -10,11 +10,10 @@ use Rattle.merge.specs.Nodes.{noPair, nodesOf, nodeAt}
 use Rattle.merge.specs.State.{findNumber, isFound, those, childrenOf}
 use Rattle.merge.specs.Tables.{tableOf}
 use Rattle.merge.specs.Scan.{isWalked}
-use Rattle.merge.specs.Load.{loadAnswer, loadBytes}
+use Rattle.merge.specs.Load.{loadErrno, loadAnswer, loadBytes}
 use Rattle.merge.specs.declared.stacks.Pair.{Pair}
 use Rattle.merge.specs.declared.node.Node.{Node}
 use Rattle.merge.specs.declared.load.Loading.{Loading}
-use Rattle.merge.specs.declared.load.Loading.the-variants.{Done, NoRoom}
 use Rattle.calls.specs.Refusal.{Test, test, afterTests, passed, Outcome}
 use Rattle.calls.specs.declared.refusal.Refusal.the-variants.{Enoent, Enotdir, Enfile}
 use Rattle.calls.specs.declared.refusal.Answer.the-variants.{Fine}
@@ -54,9 +53,9 @@ parentTests u l s x =
     ∷ test (not (isDirectoryNode u l (numbered s x))) Enotdir
     ∷ []
 
+-- a load is refused where its number is not 0
 abbrev pub isRefused : Loading → Bool
-isRefused Done = false
-isRefused NoRoom = true
+isRefused a = not (eqb (loadErrno a) 0)
 
 -- "load (23)" of the directory whose node stands at place `k`
 unfoldable pub loadTests : List ℕ → List ℕ → List ℕ → ℕ → List Test
