@@ -10,10 +10,10 @@ use lib.Dec.{eqb}
 use lib.ListN.{length, getD, set, List·getD-eq-default}
 use lib.Seq.{getD-set-same, getD-set-other}
 use borrow.Author.Tests.{eq-eqb, ne-eqb, eqb-true, eqb-false}
-use Rattle.layers.specs.Items.{recordsOf, entriesOf, recordAt, entryAt, freeRecord, freeEntry, withRecord, withEntry, PutRecord, PutEntry}
+use Rattle.layers.specs.Items.{recordsOf, entriesOf, recordAt, entryAt, freeRecord, freeEntry, withRecord, withEntry, recordPut, entryPut, PutRecord, PutEntry}
 use Rattle.layers.specs.Names.{Name}
 use Rattle.layers.specs.Search.{firstFrom, one, countIf, names, searchOf, isFree, noRecord, namesRecord, naming, freeEntryPlace, freeRecordPlace}
-use Rattle.layers.specs.Change.{entryPlaced, entryAdded, AddEntry, numbered, recordPlaced, recordAdded, AddRecord, recordsLeft, FreedRecord, entriesLeft, DropEntry}
+use Rattle.layers.specs.Change.{entryPlaced, entryAdded, entryPutAt, AddEntry, numbered, recordPlaced, recordAdded, recordPutAt, AddRecord, recordsLeft, recordLeft, FreedRecord, entriesLeft, droppedEntry, DropEntry}
 use Rattle.layers.specs.declared.items.Record.{Record}
 use Rattle.layers.specs.declared.items.Entry.{Entry}
 use Rattle.layers.specs.declared.search.Found.{Found}
@@ -238,6 +238,15 @@ module _ (rs : List Record) (es : List Entry) (c : ℕ) where
       go true = with-record-other rs c freeRecord q n
       go false = refl
 
+module _ (t : List ℕ) (c : ℕ) where
+  pub record-left-named : naming c (entriesOf t) ≢ 0 → recordLeft t c ≡ t
+  unfolding recordLeft
+  record-left-named n = rw (ne-eqb (naming c (entriesOf t)) 0 n) refl
+
+  pub record-left-unnamed : naming c (entriesOf t) ≡ 0 → recordLeft t c ≡ recordPut t c freeRecord
+  unfolding recordLeft
+  record-left-unnamed e = rw (eq-eqb (naming c (entriesOf t)) 0 e) refl
+
 -- ---- as the code changes a table
 
 pub free-below : (t : List ℕ) (f : Found) (k : ℕ) → f ≡ freeEntryPlace (entriesOf t) → f ≡ At k → k < 128
@@ -247,39 +256,46 @@ pub record-below : (t : List ℕ) (f : Found) (i : ℕ) → f ≡ freeRecordPlac
 record-below t f i p q = let h : i < 1 + length (recordsOf t) = free-record-below (recordsOf t) i (sym p ∙ q) in omega (arith, length-records t)
 
 pub not-added : (t : List ℕ) (e : Entry) (f : Found) → f ≡ freeEntryPlace (entriesOf t) → f ≡ Missing → AddEntry t e Missing t
-unfolding entryPlaced
-not-added t e f p q = record { place = sym q ∙ p; entries = rw (← p, q) refl; records = refl }
+unfolding entryPlaced entryPutAt
+not-added t e f p q = record { bytes = rw (← p, q) refl; place = sym q ∙ p; entries = rw (← p, q) refl; records = refl }
 
 pub added : (t u : List ℕ) (e : Entry) (f : Found) (k : ℕ) → f ≡ freeEntryPlace (entriesOf t) → f ≡ At k → PutEntry t k e u → AddEntry t e (At k) u
-unfolding entryPlaced
-added t u e f k p q h = record { place = sym q ∙ p; entries = h .entries ∙ rw (← p, q) refl; records = h .records }
+unfolding entryPlaced entryPutAt
+added t u e f k p q h = record { bytes = h .bytes ∙ rw (← p, q) refl; place = sym q ∙ p; entries = h .entries ∙ rw (← p, q) refl; records = h .records }
 
 pub record-not-added : (t : List ℕ) (r : Record) (f : Found) → f ≡ freeRecordPlace (recordsOf t) → f ≡ Missing → AddRecord t r Missing t
-unfolding recordPlaced
-record-not-added t r f p q = record { place = sym q ∙ p; records = rw (← p, q) refl; entries = refl }
+unfolding recordPlaced recordPutAt
+record-not-added t r f p q = record { bytes = rw (← p, q) refl; place = sym q ∙ p; records = rw (← p, q) refl; entries = refl }
 
 pub record-added : (t u : List ℕ) (r s : Record) (f : Found) (i : ℕ) → f ≡ freeRecordPlace (recordsOf t) → f ≡ At i → s ≡ numbered i r → PutRecord t i s u → AddRecord t r (At i) u
-unfolding recordPlaced
-record-added t u r s f i p q e h = record { place = sym q ∙ p; records = h .records ∙ rw (e, ← p, q) refl; entries = h .entries }
+unfolding recordPlaced recordPutAt
+record-added t u r s f i p q e h = record { bytes = h .bytes ∙ rw (e, ← p, q) refl; place = sym q ∙ p; records = h .records ∙ rw (e, ← p, q) refl; entries = h .entries }
 
 module _ (t u : List ℕ) (c n : ℕ) (q : n ≡ naming c (entriesOf t)) where
   pub freed : (w : ℕ) (s : Record) → n ≡ 0 → w ≡ c → s ≡ freeRecord → PutRecord t w s u → FreedRecord t c u
-  freed w s z e f h = record { records = h .records ∙ (rw (e, f) refl ∙ sym (records-left-unnamed (recordsOf t) (entriesOf t) c (sym q ∙ z))); entries = h .entries }
+  freed w s z e f h =
+      record {
+        bytes = h .bytes ∙ (rw (e, f) refl ∙ sym (record-left-unnamed t c (sym q ∙ z)));
+        records = h .records ∙ (rw (e, f) refl ∙ sym (records-left-unnamed (recordsOf t) (entriesOf t) c (sym q ∙ z)));
+        entries = h .entries;
+      }
 
   pub not-freed : (n ≡ 0 → ⊥) → FreedRecord t c t
-  not-freed z = record { records = sym (records-left-named (recordsOf t) (entriesOf t) c (λ e. z (q ∙ e))); entries = refl }
+  not-freed z = record { bytes = sym (record-left-named t c (λ e. z (q ∙ e))); records = sym (records-left-named (recordsOf t) (entriesOf t) c (λ e. z (q ∙ e))); entries = refl }
 
 module _ (t : List ℕ) (j p : ℕ) (q : p ≡ entryAt (entriesOf t) j .parent) where
   pub not-dropped : p ≡ 0 → DropEntry t j t
-  unfolding isFree
-  not-dropped z = record { entries = rw (eq-eqb (entryAt (entriesOf t) j .parent) 0 (sym q ∙ z)) refl; records = rw (eq-eqb (entryAt (entriesOf t) j .parent) 0 (sym q ∙ z)) refl }
+  unfolding isFree droppedEntry
+  not-dropped z = record { bytes = rw (eq-eqb (entryAt (entriesOf t) j .parent) 0 (sym q ∙ z)) refl; entries = rw (eq-eqb (entryAt (entriesOf t) j .parent) 0 (sym q ∙ z)) refl; records = rw (eq-eqb (entryAt (entriesOf t) j .parent) 0 (sym q ∙ z)) refl }
 
   pub dropped : (u v : List ℕ) (c : ℕ) (e : Entry) → (p ≡ 0 → ⊥) → c ≡ entryAt (entriesOf t) j .child → e ≡ freeEntry → PutEntry t j e u → FreedRecord u c v → DropEntry t j v
-  unfolding isFree
+  unfolding isFree droppedEntry
   dropped u v c e z w f h k =
       let b : eqb (entryAt (entriesOf t) j .parent) 0 ≡ false = ne-eqb (entryAt (entriesOf t) j .parent) 0 (λ y. z (q ∙ y)) in
       let g : entriesOf u ≡ entriesLeft (entriesOf t) j = h .entries ∙ rw f refl in
+      let p : u ≡ entryPut t j freeEntry = h .bytes ∙ rw f refl in
       record {
+        bytes = k .bytes ∙ (ap₂ recordLeft p w ∙ rw b refl);
         entries = k .entries ∙ (g ∙ rw b refl);
         records = k .records ∙ (ap₂ (λ (rs : List Record) (es : List Entry). recordsLeft rs es c) (h .records) g ∙ rw (b, w) refl);
       }

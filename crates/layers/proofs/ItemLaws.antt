@@ -4,10 +4,11 @@ use Prim.Native.Nat.{ℕ, zero, suc, _+_, _*_, _-_, _^_, _≤_, _<_}
 use native.Mathlib.Omega.{arith}
 use native.Mathlib.Nat.{add-assoc}
 use lib.Seq.{drop-drop, take-all, set-out}
+use borrow.Author.Tests.{eq-eqb, ne-eqb, lt-ltb, le-ltb}
 use mathlib.Core.List.{List, [], _∷_, _++_, map}
 use lib.ListN.{length, take, drop, getD, set, replicate, length-append, length-take, length-drop, length-map, List·getD-eq-default}
 use Rattle.layers.specs.Bytes.{part, over, leOf, leBytes, numberAt, laid, AllBytes}
-use Rattle.layers.specs.Items.{pieces, headBytes, tailBytes, recordOf, entryOf, recordsOf, entriesOf, recordAt, entryAt, freeRecord, freeEntry, withRecord, withEntry, PutRecord, PutEntry, FitsHead, FitsTail}
+use Rattle.layers.specs.Items.{pieces, headBytes, tailBytes, recordBytes, entryBytes, recordOf, entryOf, recordsOf, entriesOf, recordAt, entryAt, freeRecord, freeEntry, withRecord, withEntry, recordPut, entryPut, PutRecord, PutEntry, FitsHead, FitsTail}
 use Rattle.layers.specs.declared.items.Record.{Record}
 use Rattle.layers.specs.declared.items.Entry.{Entry}
 use Rattle.layers.proofs.Numbers.{le-read, le-write, length-le, number-in, laid-in}
@@ -86,13 +87,6 @@ record-fields b p l d s c h e₁ e₂ e₃ e₄ e₅ =
 
 -- ---- one item written
 
--- the bytes of a record
-unfoldable pub recordBytes : Record → List ℕ
-recordBytes r = headBytes r ++ tailBytes r
-
-unfoldable pub entryBytes : Entry → List ℕ
-entryBytes e = (e .parent ∷ e .child ∷ e .length ∷ e .zero ∷ []) ++ e .name
-
 pub record-read : (r : Record) → FitsHead r → FitsTail r → recordOf (recordBytes r) ≡ r
 unfolding recordOf recordBytes headBytes tailBytes leBytes
 record-read r f g =
@@ -111,6 +105,34 @@ pub length-record : (r : Record) → length (recordBytes r) ≡ 32
 unfolding recordBytes headBytes tailBytes
 length-record r = simp (length-append, length-le)
 
+pub length-entry : (e : Entry) → length (e .name) ≡ 28 → length (entryBytes e) ≡ 32
+unfolding entryBytes
+length-entry e h = simp (h) refl
+
+-- ---- an item's bytes in the table
+
+module _ (t : List ℕ) (i : ℕ) (r : Record) where
+  pub record-put-none : i ≡ 0 → t ≡ recordPut t i r
+  unfolding recordPut
+  record-put-none h = rw (eq-eqb i 0 h) refl
+
+  pub record-put-past : 128 < i → t ≡ recordPut t i r
+  unfolding recordPut
+  record-put-past h = rw (ne-eqb i 0 (λ e. omega arith), lt-ltb 128 i h) refl
+
+  pub record-put-in : (i ≡ 0 → ⊥) → i ≤ 128 → recordPut t i r ≡ over t (32 * (i - 1)) (recordBytes r)
+  unfolding recordPut
+  record-put-in lo hi = rw (ne-eqb i 0 lo, le-ltb 128 i hi) refl
+
+module _ (t : List ℕ) (j : ℕ) (e : Entry) where
+  pub entry-put-past : 127 < j → t ≡ entryPut t j e
+  unfolding entryPut
+  entry-put-past h = rw (lt-ltb 127 j h) refl
+
+  pub entry-put-in : j ≤ 127 → entryPut t j e ≡ over t (4096 + 32 * j) (entryBytes e)
+  unfolding entryPut
+  entry-put-in h = rw (le-ltb 127 j h) refl
+
 -- a run laid after another
 pub laid-next : (t u v : List ℕ) (a n : ℕ) (x y : List ℕ) → u ≡ over t a x → length x ≡ n → a + n ≤ length t → v ≡ over u (a + n) y → v ≡ over t a (x ++ y)
 laid-next t u v a n x y p k h q =
@@ -123,15 +145,17 @@ put-record t u (suc i) r f g n lo hi e =
     let k : length (recordBytes r) ≡ 32 = length-record r in
     let z : suc i - 1 ≡ i = omega arith in
     record {
+      bytes = e ∙ sym (record-put-in t (suc i) r lo hi);
       records = rw (e, z, pieces-set 32 128 t i (recordBytes r) k (omega arith) (omega arith), map-set recordOf (pieces 32 128 t) i (recordBytes r), record-read r f g) refl;
       entries = rw (e, z, drop-over-after t (32 * i) (recordBytes r) (omega arith) 4096 (omega arith)) refl;
     }
 
 pub put-entry : (t u : List ℕ) (j : ℕ) (g : Entry) → length (g .name) ≡ 28 → length t ≡ 8192 → j < 128 → u ≡ over t (4096 + 32 * j) (entryBytes g) → PutEntry t j g u
-unfolding recordsOf entriesOf entryBytes
+unfolding recordsOf entriesOf
 put-entry t u j g m n h e =
-    let k : length (entryBytes g) ≡ 32 = simp (m) refl in
+    let k : length (entryBytes g) ≡ 32 = length-entry g m in
     record {
+      bytes = e ∙ sym (entry-put-in t j g (omega arith));
       records = rw (e, pieces-past 32 128 t (4096 + 32 * j) (entryBytes g) (omega arith) (omega arith)) refl;
       entries =
           rw (e, drop-over t 4096 (32 * j) (entryBytes g) (omega arith), pieces-set 32 128 (drop 4096 t) j (entryBytes g) k h (simp length-drop (omega arith)), map-set entryOf (pieces 32 128 (drop 4096 t)) j (entryBytes g), entry-read g m) refl;
@@ -140,15 +164,15 @@ put-entry t u j g m n h e =
 -- outside the table nothing changes
 pub unput-record : (t : List ℕ) (i : ℕ) (r : Record) → i ≡ 0 → PutRecord t i r t
 unfolding withRecord
-unput-record t i r h = record { records = rw h refl; entries = refl }
+unput-record t i r h = record { bytes = record-put-none t i r h; records = rw h refl; entries = refl }
 
 pub past-record : (t : List ℕ) (i : ℕ) (r : Record) → 128 < i → PutRecord t i r t
 unfolding withRecord
 past-record t zero r h = absurd (omega arith)
-past-record t (suc i) r h = record { records = sym (set-out (recordsOf t) i r (rw (length-records t) (omega arith))); entries = refl }
+past-record t (suc i) r h = record { bytes = record-put-past t (suc i) r h; records = sym (set-out (recordsOf t) i r (rw (length-records t) (omega arith))); entries = refl }
 
 pub past-entry : (t : List ℕ) (j : ℕ) (e : Entry) → 127 < j → PutEntry t j e t
-past-entry t j e h = record { records = refl; entries = sym (set-out (entriesOf t) j e (rw (length-entries t) (omega arith))) }
+past-entry t j e h = record { bytes = entry-put-past t j e h; records = refl; entries = sym (set-out (entriesOf t) j e (rw (length-entries t) (omega arith))) }
 
 -- a run laid after another, both inside
 pub two-laid : (t t₁ t₂ : List ℕ) (a m : ℕ) (x y : List ℕ) → length x ≡ m → a + m + length y ≤ length t → t₁ ≡ laid t a x → t₂ ≡ laid t₁ (a + m) y → t₂ ≡ over t a (x ++ y)

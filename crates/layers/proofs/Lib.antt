@@ -6,10 +6,13 @@ pub mod Pieces
 pub mod NameLaws
 pub mod ItemLaws
 pub mod Determined
+pub mod WordLaws
+pub mod ZeroLaws
 pub mod Places
 pub mod EveryLaws
 pub mod CountLaws
 pub mod CountTally
+pub mod FreeLaws
 pub mod RuleLaws
 pub mod ReachLaws
 pub mod RuleDistinct
@@ -19,7 +22,11 @@ pub mod OrderLaws
 pub mod SortLaws
 pub mod PlaceLaws
 pub mod ChangeLaws
+pub mod Least
+pub mod Padded
+pub mod ChangeBytes
 pub mod Moves
 pub mod PieceMoves
+pub mod OrderWords
 pub mod RuleOrder
 pub mod RuleFacts

@@ -7,10 +7,12 @@ use mathlib.Core.List.{List, [], _∷_, _++_}
 use lib.ListN.{length, take, drop, getD, length-drop}
 use lib.Seq.{take-add, take-take, drop-drop, drop-cons, length-take-le}
 use native.Mathlib.Numerals.{add-one}
-use Rattle.layers.proofs.Runs.{over-next}
+use Rattle.layers.proofs.Runs.{over-next, length-over}
 use lib.Arith.{mod-mul}
 use Rattle.layers.specs.Bytes.{part, over, leOf, leBytes, numberAt, laid, AllBytes}
-use borrow.Author.Tests.{le-leb, lt-leb}
+use borrow.Author.Tests.{le-leb, lt-leb, leb-true}
+use mathlib.Core.Bool.{Bool, true, false, cond}
+use lib.Dec.{leb}
 
 -- the low bytes, then the high ones
 pub le-append : (xs ys : List ℕ) → leOf (xs ++ ys) ≡ leOf xs + 256 ^ length xs * leOf ys
@@ -101,8 +103,11 @@ module _ (w : ℕ) (t : List ℕ) (a : ℕ) where
   unfolding numberAt
   number-in h = rw (le-leb (a + w) (length t) h) refl
 
+  pub number-held : (r : ℕ) → a + w ≤ length t → r ≡ leOf (take w (take (length t - a) (drop a t))) → r ≡ numberAt w t a
+  number-held r l e = e ∙ (ap leOf (take-take w (length t - a) (drop a t) (omega arith)) ∙ sym (number-in l))
+
   pub number-read : (r : ℕ) → w ≤ length t → a ≤ length t - w → r ≡ leOf (take w (take (length t - a) (drop a t))) → r ≡ numberAt w t a
-  number-read r l h e = e ∙ (ap leOf (take-take w (length t - a) (drop a t) (omega arith)) ∙ sym (number-in (omega arith)))
+  number-read r l h = number-held r (omega arith)
 
 pub ruleset number-walk = (number-short, number-past, number-read)
 
@@ -121,6 +126,14 @@ module _ (t : List ℕ) (a : ℕ) (b : List ℕ) where
 
   pub laid-over : (u : List ℕ) → length b ≤ length t → a ≤ length t - length b → u ≡ over t a b → u ≡ laid t a b
   laid-over u l h e = e ∙ sym (laid-in (omega arith))
+
+  pub length-laid : length (laid t a b) ≡ length t
+  unfolding laid
+  length-laid = go (leb (a + length b) (length t)) refl
+    where
+      go : (c : Bool) → leb (a + length b) (length t) ≡ c → length (cond c (over t a b) t) ≡ length t
+      go true e = length-over t a b (leb-true (a + length b) (length t) e)
+      go false e = refl
 
 pub ruleset laid-walk = (laid-short, laid-past, laid-over)
 

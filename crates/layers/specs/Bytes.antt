@@ -1,9 +1,13 @@
 -- Bytes in lent memory: parts, one run laid over another, and numbers stored little-endian. Assumes nothing.
-use Prim.Native.Nat.{ℕ, zero, suc, _+_, _*_, _/_, _%_, _<_}
+use Prim.Native.Nat.{ℕ, zero, suc, _+_, _*_, _/_, _%_, _^_, _<_}
 use mathlib.Core.List.{List, [], _∷_, _++_}
 use mathlib.Core.Bool.{cond}
-use lib.Dec.{leb}
+use lib.Dec.{ltb, leb}
 use lib.ListN.{length, take, drop, getD}
+
+-- the lesser of two numbers
+abbrev pub least : ℕ → ℕ → ℕ
+least a b = cond (ltb a b) a b
 
 -- the `n` bytes of `t` from `a` on
 abbrev pub part : List ℕ → ℕ → ℕ → List ℕ
@@ -17,6 +21,11 @@ over t a b = take a t ++ b ++ drop (a + length b) t
 unfoldable pub leOf : List ℕ → ℕ
 leOf [] = 0
 leOf (b ∷ bs) = b + 256 * leOf bs
+
+-- the same, the highest first
+unfoldable pub beOf : List ℕ → ℕ
+beOf [] = 0
+beOf (b ∷ bs) = 256 ^ length bs * b + beOf bs
 
 -- a number in `n` bytes, the lowest first; what does not fit is lost
 unfoldable pub leBytes : ℕ → ℕ → List ℕ

@@ -1,9 +1,11 @@
 -- A table's records and entries, as docs/ABI.md lays them out. Assumes nothing.
 use mathlib.Core.Path.{_≡_}
-use Prim.Native.Nat.{ℕ, zero, suc, _<_}
+use Prim.Native.Nat.{ℕ, zero, suc, _+_, _*_, _-_, _<_}
+use mathlib.Core.Bool.{cond}
 use mathlib.Core.List.{List, [], _∷_, _++_, map}
+use lib.Dec.{eqb, ltb}
 use lib.ListN.{take, drop, getD, set, replicate}
-use Rattle.layers.specs.Bytes.{part, leOf, leBytes}
+use Rattle.layers.specs.Bytes.{part, over, leOf, leBytes}
 use Rattle.layers.specs.declared.items.Record.{Record}
 use Rattle.layers.specs.declared.items.Entry.{Entry}
 
@@ -34,9 +36,16 @@ headBytes r = (r .number ∷ r .kind ∷ r .opaque ∷ r .mark ∷ []) ++ leByte
 unfoldable pub tailBytes : Record → List ℕ
 tailBytes r = leBytes 8 (r .device) ++ leBytes 8 (r .size) ++ leBytes 8 (r .content)
 
+unfoldable pub recordBytes : Record → List ℕ
+recordBytes r = headBytes r ++ tailBytes r
+
 -- the entry that 32 bytes hold
 unfoldable pub entryOf : List ℕ → Entry
 entryOf b = record { parent = getD b 0 0; child = getD b 1 0; length = getD b 2 0; zero = getD b 3 0; name = part b 4 28 }
+
+-- the bytes that hold an entry
+unfoldable pub entryBytes : Entry → List ℕ
+entryBytes e = (e .parent ∷ e .child ∷ e .length ∷ e .zero ∷ []) ++ e .name
 
 -- "Record place i (1 to 128) is the 32 bytes at 32 * (i - 1)"
 unfoldable pub recordsOf : List ℕ → List Record
@@ -69,13 +78,23 @@ withRecord rs (suc i) r = set rs i r
 abbrev pub withEntry : List Entry → ℕ → Entry → List Entry
 withEntry es j e = set es j e
 
+-- the table with `r` at the record place `i`; there is no place 0, and none past 128
+unfoldable pub recordPut : List ℕ → ℕ → Record → List ℕ
+recordPut t i r = cond (eqb i 0) t (cond (ltb 128 i) t (over t (32 * (i - 1)) (recordBytes r)))
+
+-- the table with `e` at the entry place `j`; there is none past 127
+unfoldable pub entryPut : List ℕ → ℕ → Entry → List ℕ
+entryPut t j e = cond (ltb 127 j) t (over t (4096 + 32 * j) (entryBytes e))
+
 -- the table `u` is `t` with `r` at the record place `i`
 pub record PutRecord (t : List ℕ) (i : ℕ) (r : Record) (u : List ℕ) : Type 0 where
+  pub bytes : u ≡ recordPut t i r
   pub records : recordsOf u ≡ withRecord (recordsOf t) i r
   pub entries : entriesOf u ≡ entriesOf t
 
 -- the table `u` is `t` with `e` at the entry place `j`
 pub record PutEntry (t : List ℕ) (j : ℕ) (e : Entry) (u : List ℕ) : Type 0 where
+  pub bytes : u ≡ entryPut t j e
   pub records : recordsOf u ≡ recordsOf t
   pub entries : entriesOf u ≡ withEntry (entriesOf t) j e
 

@@ -2,13 +2,23 @@
 ghost use mathlib.Core.Path.{_≡_};
 ghost use Prim.Native.Nat.{_+_, _*_, _≤_, _<_};
 ghost use lib.ListN.{length, take};
-ghost use Rattle.layers.specs.Bytes.{over, leOf, leBytes, numberAt, laid};
+ghost use Rattle.layers.specs.Bytes.{least, part, over, leOf, beOf, leBytes, numberAt, laid};
 
 // A byte as a number to count with.
 pub fn wide(x: u8) -> usize
     ensures { λ r. ⌜ (r ≡ x) × (r < 256) ⌝ }
 {
     x as usize
+}
+
+// `n`, or `m` where that is less.
+pub fn at_most(m: u8, n: usize) -> u8
+    ensures { λ r. ⌜ r ≡ least m n ⌝ }
+{
+    if wide(m) < n {
+        return m;
+    }
+    n as u8
 }
 
 // ---- the number that a slice starts with
@@ -52,6 +62,56 @@ fn first_u64(b: &[u8]) -> u64
     wide64(first_u32(b)) + 4294967296 * wide64(first_u32(&b[4..]))
 }
 
+// ---- the same, the highest byte first, as names are ordered
+
+// A number with its 4 bytes turned round, which compiles to one instruction.
+fn turned(x: u32) -> u32
+    ensures { λ r. ⌜ r ≡ beOf (leBytes 4 x) ⌝ }
+{
+    16777216 * (x % 256)
+        + 65536 * (x / 256 % 256)
+        + 256 * (x / 256 / 256 % 256)
+        + x / 256 / 256 / 256 % 256
+}
+
+pub(crate) fn first_be32(b: &[u8]) -> u32
+    requires { ⌜ 4 ≤ length (now b) ⌝ }
+    ensures { λ r. ⌜ r ≡ beOf (take 4 (now (b .entry))) ⌝ }
+{
+    turned(first_u32(b))
+}
+
+fn first_be64(b: &[u8]) -> u64
+    requires { ⌜ 8 ≤ length (now b) ⌝ }
+    ensures { λ r. ⌜ r ≡ beOf (take 8 (now (b .entry))) ⌝ }
+{
+    4294967296 * wide64(first_be32(b)) + wide64(first_be32(&b[4..]))
+}
+
+// ---- a number at a place of a slice that holds it, which is not tested: the caller has the bound
+
+pub fn u32_in(t: &[u8], a: usize) -> u32
+    requires { ⌜ a + 4 ≤ length (now t) ⌝ }
+    ensures { λ r. ⌜ r ≡ numberAt 4 (now (t .entry)) a ⌝ }
+{
+    first_u32(&t[a..])
+}
+
+pub fn u64_in(t: &[u8], a: usize) -> u64
+    requires { ⌜ a + 8 ≤ length (now t) ⌝ }
+    ensures { λ r. ⌜ r ≡ numberAt 8 (now (t .entry)) a ⌝ }
+{
+    first_u64(&t[a..])
+}
+
+// The same, the highest byte first.
+pub fn be64_in(t: &[u8], a: usize) -> u64
+    requires { ⌜ a + 8 ≤ length (now t) ⌝ }
+    ensures { λ r. ⌜ r ≡ beOf (part (now (t .entry)) a 8) ⌝ }
+{
+    first_be64(&t[a..])
+}
+
 // ---- a number at any place of a slice; one that does not lie in it reads as 0
 
 pub fn u16_at(t: &[u8], a: usize) -> u16
@@ -75,7 +135,7 @@ pub fn u32_at(t: &[u8], a: usize) -> u32
     if t.len() - 4 < a {
         return 0;
     }
-    first_u32(&t[a..])
+    u32_in(t, a)
 }
 
 pub fn u64_at(t: &[u8], a: usize) -> u64
@@ -87,7 +147,7 @@ pub fn u64_at(t: &[u8], a: usize) -> u64
     if t.len() - 8 < a {
         return 0;
     }
-    first_u64(&t[a..])
+    u64_in(t, a)
 }
 
 // ---- a run laid over a slice; one that does not fit changes nothing

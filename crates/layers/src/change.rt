@@ -1,14 +1,29 @@
-// The changes of a table: an entry put or taken away, and a record put.
+// The changes of a table: an entry made, put or taken away, and a record put.
 ghost use mathlib.Core.Path.{_≡_};
 ghost use Prim.Native.Nat.{_<_};
 ghost use lib.ListN.{length};
-ghost use Rattle.layers.specs.Change.{numbered, AddEntry, AddRecord, DropEntry, FreedRecord};
+ghost use Rattle.layers.specs.Change.{entryNaming, numbered, AddEntry, AddRecord, DropEntry, FreedRecord};
 use crate::bytes;
 use crate::items;
 use crate::items::Entry;
 use crate::items::Record;
+use crate::names;
 use crate::search;
 use crate::search::Found;
+
+// The entry that names the record `c` as `x` in the directory `d`; of a name that does not fit, 28 zeros.
+pub fn entry_naming(d: u8, x: &[u8], c: u8) -> Entry
+    ensures { λ r. ⌜ r ≡ entryNaming d (now (x .entry)) c ⌝ }
+{
+    let b = names::padded(x);
+    Entry {
+        parent: d,
+        child: c,
+        length: bytes::at_most(28, x.len()),
+        zero: 0,
+        name: b,
+    }
+}
 
 // Puts an entry that names a record at the lowest free place; where none is free, nothing changes.
 pub fn add_entry(t: &mut [u8], e: Entry) -> Found

@@ -128,10 +128,12 @@ pub fn record_is_good(i: usize, r: Record) -> bool
 
 // ---- one entry
 
-fn all_zero(x: &[u8]) -> bool
+// Whether what follows byte `k` is zeros, where what comes before it is.
+fn rest_is_zero(x: &[u8], k: usize) -> bool
+    requires { ⌜ (k ≤ length (now x)) × (allZero (drop k (now x)) ≡ allZero (now x)) ⌝ }
     ensures { λ b. ⌜ b ≡ allZero (now (x .entry)) ⌝ }
 {
-    let mut i = 0;
+    let mut i = k;
     while i < x.len() {
         if x[i] != 0 {
             return false;
@@ -139,6 +141,20 @@ fn all_zero(x: &[u8]) -> bool
         i += 1;
     }
     true
+}
+
+// By numbers of 8 bytes, and what is left by bytes.
+fn all_zero(x: &[u8]) -> bool
+    ensures { λ b. ⌜ b ≡ allZero (now (x .entry)) ⌝ }
+{
+    let mut i: usize = 0;
+    while i + 8 <= x.len() {
+        if bytes::u64_at(x, i) != 0 {
+            return false;
+        }
+        i += 8;
+    }
+    rest_is_zero(x, i)
 }
 
 fn name_is_good(x: [u8; 28], n: usize) -> bool
@@ -194,6 +210,51 @@ pub fn entry_is_good(e: Entry) -> bool
     name_is_good(x, n)
 }
 
+// ---- a free place, in place: "A free place is 32 zero bytes."
+
+fn is_zeros(b: &[u8]) -> bool
+    requires { ⌜ length (now b) ≡ 32 ⌝ }
+    ensures { λ r. ⌜ r ≡ allZero (now (b .entry)) ⌝ }
+{
+    if bytes::u64_at(b, 0) != 0 {
+        return false;
+    }
+    if bytes::u64_at(b, 8) != 0 {
+        return false;
+    }
+    if bytes::u64_at(b, 16) != 0 {
+        return false;
+    }
+    bytes::u64_at(b, 24) == 0
+}
+
+fn free_entry_is_good(t: &[u8], j: usize) -> bool
+    requires { ⌜ (length (now t) ≡ 8192) × (entryAt (entriesOf (now t)) j .parent ≡ 0) ⌝ }
+    ensures { λ b. ⌜ b ≡ freeEntryTest (entryAt (entriesOf (now (t .entry))) j) ⌝ }
+{
+    if 127 < j {
+        return true;
+    }
+    let a = 4096 + 32 * j;
+    let e = a + 32;
+    is_zeros(&t[a..e])
+}
+
+fn free_record_is_good(t: &[u8], i: usize) -> bool
+    requires { ⌜ (length (now t) ≡ 8192) × (recordAt (recordsOf (now t)) i .number ≡ 0) ⌝ }
+    ensures { λ b. ⌜ b ≡ freeRecordTest (recordAt (recordsOf (now (t .entry))) i) ⌝ }
+{
+    if i == 0 {
+        return true;
+    }
+    if 128 < i {
+        return true;
+    }
+    let a = 32 * (i - 1);
+    let e = a + 32;
+    is_zeros(&t[a..e])
+}
+
 // ---- the root, and an entry's parent and child
 
 fn root_is_good(t: &[u8]) -> bool
@@ -242,6 +303,9 @@ fn entry_holds(t: &[u8], j: usize) -> bool
     requires { ⌜ length (now t) ≡ 8192 ⌝ }
     ensures { λ b. ⌜ b ≡ entryHolds (recordsOf (now (t .entry))) j (entryAt (entriesOf (now (t .entry))) j) ⌝ }
 {
+    if search::parent_at(t, j) == 0 {
+        return free_entry_is_good(t, j);
+    }
     let e = items::entry_at(t, j);
     if !entry_is_good(e) {
         return false;
@@ -264,52 +328,30 @@ fn entries_are_good(t: &[u8]) -> bool
     true
 }
 
-// ---- what one pass over the entries collects for each record
+// ---- what one pass over the entries collects for each record: `a` how many entries name it, `p` the parent of the first
 
-fn count_entry(t: &[u8], j: usize, a: &mut [u8; 256])
-    requires { ⌜ (length (now t) ≡ 8192) × (j < 128) × Counted (drop (j + 1) (entriesOf (now t))) (now a) ⌝ }
-    ensures { λ _. ⌜ Counted (drop j (entriesOf (now (t .entry)))) (now (a .exit)) ⌝ }
+fn tally_entry(t: &[u8], j: usize, a: &mut [u8; 256], p: &mut [u8; 256])
+    requires { ⌜ (length (now t) ≡ 8192) × (j < 128) × Counted (drop (j + 1) (entriesOf (now t))) (now a) × Parented (drop (j + 1) (entriesOf (now t))) (now p) ⌝ }
+    ensures { λ _. ⌜ Counted (drop j (entriesOf (now (t .entry)))) (now (a .exit)) × Parented (drop j (entriesOf (now (t .entry)))) (now (p .exit)) ⌝ }
 {
-    if search::parent_at(t, j) == 0 {
+    let d = search::parent_at(t, j);
+    if d == 0 {
         return;
     }
     let c = bytes::wide(search::child_at(t, j));
     a[c] = a[c] + 1;
+    p[c] = d;
 }
 
-// How many entries name each record.
-fn count_entries(t: &[u8], a: &mut [u8; 256])
-    requires { ⌜ (length (now t) ≡ 8192) × (now a ≡ replicate 256 0) ⌝ }
-    ensures { λ _. ⌜ Counted (entriesOf (now (t .entry))) (now (a .exit)) ⌝ }
+// From the last entry on, so that an earlier entry's parent takes a later one's place.
+fn tally_entries(t: &[u8], a: &mut [u8; 256], p: &mut [u8; 256])
+    requires { ⌜ (length (now t) ≡ 8192) × (now a ≡ replicate 256 0) × (now p ≡ replicate 256 0) ⌝ }
+    ensures { λ _. ⌜ Counted (entriesOf (now (t .entry))) (now (a .exit)) × Parented (entriesOf (now (t .entry))) (now (p .exit)) ⌝ }
 {
     let mut j: usize = 128;
     while 0 < j {
         j -= 1;
-        count_entry(t, j, a);
-    }
-}
-
-fn keep_parent(t: &[u8], j: usize, a: &mut [u8; 256])
-    requires { ⌜ (length (now t) ≡ 8192) × (j < 128) × Parented (drop (j + 1) (entriesOf (now t))) (now a) ⌝ }
-    ensures { λ _. ⌜ Parented (drop j (entriesOf (now (t .entry)))) (now (a .exit)) ⌝ }
-{
-    let p = search::parent_at(t, j);
-    if p == 0 {
-        return;
-    }
-    let c = bytes::wide(search::child_at(t, j));
-    a[c] = p;
-}
-
-// The parent of the first entry that names each record: from the last entry on, the earlier takes the later's place.
-fn keep_parents(t: &[u8], a: &mut [u8; 256])
-    requires { ⌜ (length (now t) ≡ 8192) × (now a ≡ replicate 256 0) ⌝ }
-    ensures { λ _. ⌜ Parented (entriesOf (now (t .entry))) (now (a .exit)) ⌝ }
-{
-    let mut j: usize = 128;
-    while 0 < j {
-        j -= 1;
-        keep_parent(t, j, a);
+        tally_entry(t, j, a, p);
     }
 }
 
@@ -376,6 +418,9 @@ fn record_holds(t: &[u8], c: &[u8; 256], p: &[u8; 256], i: usize) -> bool
     requires { ⌜ (length (now t) ≡ 8192) × (i < 129) × Counted (entriesOf (now t)) (now c) × Parented (entriesOf (now t)) (now p) ⌝ }
     ensures { λ b. ⌜ b ≡ recordHolds (entriesOf (now (t .entry))) i (recordAt (recordsOf (now (t .entry))) i) ⌝ }
 {
+    if search::number_at(t, i) == 0 {
+        return free_record_is_good(t, i);
+    }
     let r = items::record_at(t, i);
     if !record_is_good(i, r) {
         return false;
@@ -401,15 +446,14 @@ fn records_are_good(t: &[u8], c: &[u8; 256], p: &[u8; 256]) -> bool
     true
 }
 
-// One pass over the entries for the counts and one for the parents, then one over the records.
+// One pass over the entries for the counts and the parents, then one over the records.
 fn records_hold(t: &[u8]) -> bool
     requires { ⌜ length (now t) ≡ 8192 ⌝ }
     ensures { λ b. ⌜ b ≡ recordsTest (recordsOf (now (t .entry))) (entriesOf (now (t .entry))) ⌝ }
 {
     let mut c = [0u8; 256];
-    count_entries(t, &mut c);
     let mut p = [0u8; 256];
-    keep_parents(t, &mut p);
+    tally_entries(t, &mut c, &mut p);
     records_are_good(t, &c, &p)
 }
 

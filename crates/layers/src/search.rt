@@ -1,8 +1,9 @@
 // The search of one layer, free places, and counts.
 ghost use mathlib.Core.Path.{_≡_};
-ghost use Prim.Native.Nat.{_≤_};
+ghost use Prim.Native.Nat.{_≤_, _+_};
 ghost use lib.ListN.{length};
 ghost use mathlib.Core.Bool.{not};
+ghost use lib.Dec.{leb};
 ghost use Rattle.layers.specs.Items.{recordsOf, entriesOf, recordAt, entryAt};
 ghost use Rattle.layers.specs.Search.{nameOf, isFree, noRecord, names, namesRecord, searchOf, freeEntryPlace, freeRecordPlace, one, usedEntries, usedRecords, naming};
 use crate::bytes;
@@ -196,6 +197,23 @@ pub fn used_entries(t: &[u8]) -> usize
     n
 }
 
+// Whether at least `n` entry places are free: the lowest are taken first, so the walk starts at the highest, and ends at the n-th.
+pub fn has_free_entries(t: &[u8], n: usize) -> bool
+    requires { ⌜ length (now t) ≡ 8192 ⌝ }
+    ensures { λ r. ⌜ r ≡ leb (usedEntries (entriesOf (now (t .entry))) + n) 128 ⌝ }
+{
+    let mut m = n;
+    let mut j: usize = 128;
+    while 0 < j {
+        if m == 0 {
+            return true;
+        }
+        j -= 1;
+        m -= 1 - used_entry(t, j);
+    }
+    m == 0
+}
+
 fn used_record(t: &[u8], i: usize) -> usize
     requires { ⌜ length (now t) ≡ 8192 ⌝ }
     ensures { λ r. ⌜ (r ≡ one (not (noRecord (recordAt (recordsOf (now (t .entry))) i)))) × (r ≤ 1) ⌝ }
@@ -218,6 +236,23 @@ pub fn used_records(t: &[u8]) -> usize
         i += 1;
     }
     n
+}
+
+// Whether at least `n` record places are free, walked like the entries.
+pub fn has_free_records(t: &[u8], n: usize) -> bool
+    requires { ⌜ length (now t) ≡ 8192 ⌝ }
+    ensures { λ r. ⌜ r ≡ leb (usedRecords (recordsOf (now (t .entry))) + n) 128 ⌝ }
+{
+    let mut m = n;
+    let mut i: usize = 128;
+    while 0 < i {
+        if m == 0 {
+            return true;
+        }
+        m -= 1 - used_record(t, i);
+        i -= 1;
+    }
+    m == 0
 }
 
 fn names_record(t: &[u8], j: usize, r: u8) -> usize

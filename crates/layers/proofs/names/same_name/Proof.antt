@@ -1,57 +1,37 @@
-use Rattle.layers.specs.Names.{sameName}
-use lib.ListN.{length, drop}
-use Prim.Native.Nat.{_≤_, _-_}
-use mathlib.Core.Path.{_≡_}
-use Rattle.layers.proofs.NameLaws.{same-walk}
+use Rattle.layers.proofs.NameLaws.{same-lengths}
 use borrow.Author.Needs.{needs}
 use Rattle.layers.proofs.names.same_name.Statement.{statement}
 use Rattle.layers.proofs.names.same_name.Tie as tie
 
-abbrev Inv-loop : tie.InvT-loop
-Inv-loop a b i₀ i = (i ≤ length a) × (length a ≡ length b) × (sameName (drop i a) (drop i b) ≡ sameName a b)
+returns : tie.Need-returns
+returns c = search (same-lengths, needs)
 
-abbrev μ-loop : tie.MeasureT-loop
-μ-loop a b i₀ i = length a - i
+same-bytes-requires : tie.Need-same-bytes-requires
+same-bytes-requires c κs = search needs
 
-returns : tie.Need-returns Inv-loop μ-loop
-returns c = search (same-walk, needs)
+returns-2 : tie.Need-returns-2
+returns-2 c = search needs
 
-loop-holds : tie.Need-loop-holds Inv-loop μ-loop
-loop-holds c = search needs
+same-halves-requires : tie.Need-same-halves-requires
+same-halves-requires c κs = search needs
 
-shared-slice-read-if2 : tie.Need-shared-slice-read-if2 Inv-loop μ-loop
-shared-slice-read-if2 c = search needs
+returns-3 : tie.Need-returns-3
+returns-3 c = search needs
 
-shared-slice-read-if2-2 : tie.Need-shared-slice-read-if2-2 Inv-loop μ-loop
-shared-slice-read-if2-2 c = search needs
+same-words-requires : tie.Need-same-words-requires
+same-words-requires c κs = search needs
 
-returns-2 : tie.Need-returns-2 Inv-loop μ-loop
-returns-2 c = search (same-walk, needs)
-
-add-i : tie.Need-add-i Inv-loop μ-loop
-add-i c = search needs
-
-loop-less : tie.Need-loop-less Inv-loop μ-loop
-loop-less c = search needs
-
-loop-again : tie.Need-loop-again Inv-loop μ-loop
-loop-again c = search (same-walk, needs)
-
-returns-3 : tie.Need-returns-3 Inv-loop μ-loop
-returns-3 c = search (same-walk, needs)
+returns-4 : tie.Need-returns-4
+returns-4 c = search needs
 
 pub same-name-spec : {M : Type 1} → statement M
 same-name-spec =
     tie.close
     (tie.spec
-    Inv-loop
-    μ-loop
     returns
-    loop-holds
-    shared-slice-read-if2
-    shared-slice-read-if2-2
+    same-bytes-requires
     returns-2
-    add-i
-    loop-less
-    loop-again
-    returns-3)
+    same-halves-requires
+    returns-3
+    same-words-requires
+    returns-4)

@@ -1,4 +1,4 @@
-use Rattle.layers.proofs.RuleWalks.{zero-walk}
+use Rattle.layers.proofs.ZeroLaws.{zero-word-next, zero-word-not}
 use Rattle.layers.specs.Rules.{allZero}
 use lib.ListN.{length, drop}
 use Prim.Native.Nat.{_≤_, _-_}
@@ -16,11 +16,14 @@ abbrev μ-loop : tie.MeasureT-loop
 loop-holds : tie.Need-loop-holds Inv-loop μ-loop
 loop-holds c = search needs
 
-shared-slice-read-if1 : tie.Need-shared-slice-read-if1 Inv-loop μ-loop
-shared-slice-read-if1 c = search needs
+add-loop : tie.Need-add-loop Inv-loop μ-loop
+add-loop c = search needs
+
+u64-at-requires : tie.Need-u64-at-requires Inv-loop μ-loop
+u64-at-requires c κs = search needs
 
 returns : tie.Need-returns Inv-loop μ-loop
-returns c = search (zero-walk, needs)
+returns c = search (zero-word-not, needs)
 
 add-i : tie.Need-add-i Inv-loop μ-loop
 add-i c = search needs
@@ -29,10 +32,13 @@ loop-less : tie.Need-loop-less Inv-loop μ-loop
 loop-less c = search needs
 
 loop-again : tie.Need-loop-again Inv-loop μ-loop
-loop-again c = search (zero-walk, needs)
+loop-again c = (search needs, zero-word-next (c .before .before .before .before .before .args .x .now) (c .before .before .before .loop .i) (c .before .u64-at .result) (search needs) (search needs) (search needs) (search needs))
+
+rest-is-zero-requires : tie.Need-rest-is-zero-requires Inv-loop μ-loop
+rest-is-zero-requires c κs = search needs
 
 returns-2 : tie.Need-returns-2 Inv-loop μ-loop
-returns-2 c = search (zero-walk, needs)
+returns-2 c = search needs
 
 pub all-zero-spec : {M : Type 1} → statement M
 all-zero-spec =
@@ -41,9 +47,11 @@ all-zero-spec =
     Inv-loop
     μ-loop
     loop-holds
-    shared-slice-read-if1
+    add-loop
+    u64-at-requires
     returns
     add-i
     loop-less
     loop-again
+    rest-is-zero-requires
     returns-2)
