@@ -2,16 +2,16 @@
 use mathlib.Core.Path.{_≡_, refl, sym, _∙_}
 use Prim.Native.Nat.{ℕ, _+_, _*_, _-_, _/_, _≤_, _<_}
 use native.Mathlib.Omega.{arith}
-use mathlib.Core.Bool.{Bool, true, false, cond}
 use mathlib.Core.List.{List}
-use lib.Dec.{ltb, leb}
+use lib.Dec.{leb}
 use lib.ListN.{length, length-append}
-use borrow.Author.Tests.{lt-ltb, le-ltb, ltb-true, ltb-false}
-use Rattle.layers.specs.Bytes.{leBytes, numberAt, laid}
+use borrow.Author.Tests.{lt-ltb, le-ltb}
+use Rattle.layers.specs.Bytes.{least, leBytes, numberAt, laid}
 use Rattle.layers.proofs.Numbers.{length-le, laid-in, laid-short}
 use Rattle.layers.proofs.ItemLaws.{two-laid}
+use Rattle.layers.proofs.Least.{least-left, least-right}
 use Rattle.merge.specs.declared.head.Head.{Head}
-use Rattle.merge.specs.Nodes.{least, capacity, countOf}
+use Rattle.merge.specs.Nodes.{capacity, countOf}
 use Rattle.merge.specs.Heads.{nextOf, headOf, headBytes, withHead, roomOf, full}
 
 -- ---- how many fit
@@ -29,20 +29,6 @@ unfolding capacity
 fit-all s l h = rw (le-ltb 4294967295 ((length s - 12) / 52) h) refl
 
 pub ruleset fits = (fit-short, fit-most, fit-all)
-
-least-left : (a b : ℕ) → least a b ≤ a
-least-left a b = go (ltb a b) refl
-  where
-    go : (t : Bool) → ltb a b ≡ t → cond t a b ≤ a
-    go true e = omega arith
-    go false e = ltb-false a b e
-
-least-right : (a b : ℕ) → least a b ≤ b
-least-right a b = go (ltb a b) refl
-  where
-    go : (t : Bool) → ltb a b ≡ t → cond t a b ≤ b
-    go true e = let h : a < b = ltb-true a b e in omega arith
-    go false e = omega arith
 
 pub capacity-fits : (s : List ℕ) → 52 * capacity s ≤ length s - 12
 unfolding capacity

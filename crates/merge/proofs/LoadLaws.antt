@@ -1,5 +1,5 @@
 -- A load as the code runs it: the names that have no node, kept in place, and a node for each. Assumes nothing.
-use mathlib.Core.Path.{_≡_, refl, sym, ap, ap₂, _∙_}
+use mathlib.Core.Path.{_≡_, refl, sym, ap, ap₂, _∙_, subst}
 use Prim.Native.Nat.{ℕ, zero, suc, _+_, _≤_, _<_}
 use native.Mathlib.Omega.{arith}
 use native.Mathlib.Numerals.{add-one}
@@ -8,33 +8,29 @@ use mathlib.Core.List.{List, [], _∷_, _++_, map, append-nil}
 use lib.Dec.{eqb, ltb, leb}
 use lib.ListN.{length, take, drop, getD, set, length-take, length-set, length-map, drop-of-length-le}
 use lib.Seq.{drop-cons, getD-take, getD-drop, take-suc-set, drop-set-lt, append-snoc, drop-drop, length-take-le}
-use borrow.Author.Tests.{eq-eqb, ne-eqb, lt-ltb, le-ltb, le-leb, lt-leb}
-use Rattle.layers.specs.Names.{Name}
-use Rattle.layers.specs.Search.{one}
+use borrow.Author.Tests.{eq-eqb, ne-eqb, le-leb, lt-leb}
+use Rattle.layers.specs.Names.{Name, sameName}
+use Rattle.layers.specs.Search.{one, firstFrom}
 use Rattle.layers.specs.declared.search.Found.{Found}
 use Rattle.layers.specs.declared.search.Found.the-variants.{At, Missing}
-use Rattle.merge.specs.Nodes.{least, nodesOf, nodeAt}
+use Rattle.merge.specs.Nodes.{nodesOf, nodeAt, nodeName}
 use Rattle.merge.specs.Methods.{withLoaded}
 use Rattle.merge.specs.Heads.{roomOf, numbersLeft}
-use Rattle.merge.specs.State.{findChild, isFound, those}
+use Rattle.merge.specs.State.{isChild, hasParent, hasChildren, findChild, isFound, those}
 use Rattle.merge.specs.Changes.{putBytes, newBytes}
 use Rattle.merge.specs.Tables.{placeName}
-use Rattle.merge.specs.Scan.{mergedNames}
+use Rattle.merge.specs.Scan.{scanned, mergedNames}
+use Rattle.merge.specs.Tops.{topPlace, Topmost}
 use Rattle.merge.specs.Places.{mergedPlaces, Filled}
 use Rattle.merge.specs.Stacks.{mergedStack}
 use Rattle.merge.specs.Load.{newNode, hasNone, addNames, stackList, toAdd, suffices, isLoaded, loadNode, loadNodeBytes, loadAnswer, loadBytes, placeHasNone, KeptPlaces, ToAdd}
 use Rattle.merge.proofs.NamesOfPlaces.{names-of-places}
+use Rattle.merge.proofs.TopPlaces.{All, all-at, all-those, merged-tops}
 use Rattle.merge.specs.declared.stacks.Pair.{Pair}
 use Rattle.merge.specs.declared.stacks.Stack.{Stack}
 use Rattle.merge.specs.declared.node.Node.{Node}
 use Rattle.merge.specs.declared.load.Loading.{Loading}
 use Rattle.merge.specs.declared.load.Loading.the-variants.{Done, NoRoom}
-
-pub least-first : (m n w : ℕ) → w ≡ m → w < n → m ≡ least m n
-least-first m n w e h = let l : m < n = omega arith in rw (lt-ltb m n l) refl
-
-pub least-second : (m n w : ℕ) → w ≡ m → n ≤ w → n ≡ least m n
-least-second m n w e h = let l : n ≤ m = omega arith in rw (le-ltb m n l) refl
 
 pub none-there : (ns : List Node) (p : ℕ) (x : Name) (f : Found) → f ≡ findChild ns p x → f ≡ Missing → true ≡ hasNone ns p x
 unfolding hasNone isFound
@@ -158,9 +154,49 @@ to-add-is u l s n w d k r p q q′ f b e g kept =
       names =
           ap (map (placeName u l)) (kept .kept ∙ ap (those (placeHasNone u l (nodesOf s) w)) (f .first ∙ rw e refl))
           ∙ (those-map (placeName u l) (hasNone (nodesOf s) w) (mergedPlaces u l (stackList n)) ∙ rw (names-of-places u l (stackList n), g) refl);
+      topmost = record { top = λ j h. tops j h };
       within = let z : r ≤ k = kept .within in omega arith;
       long = kept .long;
     }
+  where
+    all : All (λ i. topPlace u l (placeName u l i) (scanned u l (stackList n)) ≡ At i) (take r q′)
+    all = subst (λ (ps : List ℕ). All (λ i. topPlace u l (placeName u l i) (scanned u l (stackList n)) ≡ At i) ps) (sym (kept .kept ∙ ap (those (placeHasNone u l (nodesOf s) w)) (f .first ∙ rw e refl)))
+        (all-those (λ i. topPlace u l (placeName u l i) (scanned u l (stackList n)) ≡ At i) (placeHasNone u l (nodesOf s) w) (mergedPlaces u l (stackList n)) (merged-tops u l (stackList n)))
+
+    tops : (j : ℕ) → j < r → topPlace u l (placeName u l (getD q′ j 0)) (scanned u l (stackList n)) ≡ At (getD q′ j 0)
+    tops j h =
+        let z : r ≤ k = kept .within in
+        let y : length q′ ≡ 512 = kept .long in
+        subst (λ (i : ℕ). topPlace u l (placeName u l i) (scanned u l (stackList n)) ≡ At i) (getD-take r q′ j 0 h)
+        (all-at (λ i. topPlace u l (placeName u l i) (scanned u l (stackList n)) ≡ At i) (take r q′) all j (rw (length-take-le r q′ (omega arith)) h))
+
+-- ---- below a node that has no children no name has a node
+
+no-child : (p : ℕ) (x : Name) (k : ℕ) (ns : List Node) → isFound (firstFrom (hasParent p) k ns) ≡ false → isFound (firstFrom (isChild p x) k ns) ≡ false
+unfolding firstFrom isFound isChild hasParent
+no-child p x k [] h = refl
+no-child p x k (n ∷ ns) h = go (eqb (n .parent) p) h (no-child p x (suc k) ns)
+  where
+    go : (b : Bool) → isFound (cond b (At k) (firstFrom (hasParent p) (suc k) ns)) ≡ false → (isFound (firstFrom (hasParent p) (suc k) ns) ≡ false → isFound (firstFrom (isChild p x) (suc k) ns) ≡ false)
+        → isFound (cond (cond b (sameName (nodeName n) x) false) (At k) (firstFrom (isChild p x) (suc k) ns)) ≡ false
+    go true e ih = absurd (let z : _≡_ {A = ℕ} 0 1 = cc in omega arith)
+    go false e ih = ih e
+
+those-all : (t : ℕ → Bool) → ((q : ℕ) → t q ≡ true) → (qs : List ℕ) → those t qs ≡ qs
+unfolding those
+those-all t h [] = refl
+those-all t h (q ∷ qs) = rw (h q) (ap (λ (r : List ℕ). q ∷ r) (those-all t h qs))
+
+pub to-add-all : (u l s : List ℕ) (n : Node) (w d k : ℕ) (p q : List ℕ) (b : Bool)
+    → Filled p k (mergedPlaces u l (take d (n .stack))) q → k ≤ 512 → d ≡ n .depth → w ≡ n .number → b ≡ hasChildren (nodesOf s) w → b ≡ false → ToAdd u l s n k q
+unfolding placeHasNone hasNone
+to-add-all u l s n w d k p q b f h e g c z =
+    to-add-is u l s n w d k k p q q f h e g
+    (record {
+      kept = sym (those-all (placeHasNone u l (nodesOf s) w) (λ j. ap not (no-child w (placeName u l j) 0 (nodesOf s) (sym c ∙ z))) (take k q));
+      within = omega arith;
+      long = f .long;
+    })
 
 -- ---- the load
 module _ (u l s : List ℕ) (j : ℕ) (n : Node) (at : n ≡ nodeAt (nodesOf s) j) (b : Bool) (is : b ≡ isLoaded n) where
@@ -198,3 +234,10 @@ module _ (u l s : List ℕ) (j : ℕ) (n : Node) (at : n ≡ nodeAt (nodesOf s) 
 -- a node for one name
 pub added-name : (u l s s′ : List ℕ) (p : ℕ) (ps : List Pair) (x : Name) (st : Stack) (n : Node) → st ≡ mergedStack u l ps x → n ≡ newNode p st x → s′ ≡ newBytes s n → s′ ≡ newBytes s (newNode p (mergedStack u l ps x) x)
 added-name u l s s′ p ps x st n a b c = c ∙ rw (b, a) refl
+
+-- a place to add is the topmost of its name
+pub top-this : (u l : List ℕ) (ps : List Pair) (q : List ℕ) (m i : ℕ) (x : Name) → Topmost u l ps q m → i < m → x ≡ placeName u l (getD q i 0) → topPlace u l x (scanned u l ps) ≡ At (getD q i 0)
+top-this u l ps q m i x a h e = rw e (a .top i h)
+
+pub to-add-topmost : (u l s : List ℕ) (n : Node) (r : ℕ) (q : List ℕ) (d : ℕ) → ToAdd u l s n r q → d ≡ n .depth → Topmost u l (take d (n .stack)) q r
+to-add-topmost u l s n r q d a e = rw e (a .topmost)

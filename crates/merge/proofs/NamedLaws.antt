@@ -60,7 +60,7 @@ has x ys = any (λ y. sameName y x) ys
 abbrev itself : Name → Name
 itself x = x
 
-has-insert : (x y : Name) (ys : List Name) → has x (insertBy itself y ys) ≡ or (sameName y x) (has x ys)
+pub has-insert : (x y : Name) (ys : List Name) → has x (insertBy itself y ys) ≡ or (sameName y x) (has x ys)
 unfolding insertBy insertStep
 has-insert x y [] = refl
 has-insert x y (z ∷ zs) = go (orderOf y z) refl (has-insert x y zs)

@@ -26,7 +26,7 @@ use Rattle.layers.proofs.SortLaws.{insert-sorted}
 abbrev itself : Name → Name
 itself x = x
 
-map-insert : {A : Type 0} (f : A → Name) (q : A) (ps : List A) → map f (insertBy f q ps) ≡ insertBy itself (f q) (map f ps)
+pub map-insert : {A : Type 0} (f : A → Name) (q : A) (ps : List A) → map f (insertBy f q ps) ≡ insertBy itself (f q) (map f ps)
 unfolding insertBy insertStep
 map-insert f q [] = refl
 map-insert f q (p ∷ ps) = go (orderOf (f q) (f p)) (map-insert f q ps)

@@ -4,15 +4,15 @@ use Prim.Native.Nat.{ℕ, suc, _+_, _*_, _-_, _≤_, _<_}
 use native.Mathlib.Omega.{arith}
 use native.Mathlib.Nat.{add-assoc}
 use native.Mathlib.Numerals.{add-one}
-use mathlib.Core.Bool.{Bool, true, false, cond}
+use mathlib.Core.Bool.{Bool, true, false}
 use mathlib.Core.List.{List, _++_, map, append-assoc, append-nil}
-use lib.Dec.{ltb, leb}
+use lib.Dec.{ltb}
 use lib.ListN.{length, take, drop, set, replicate, length-append, length-take, length-drop, length-replicate, drop-of-length-le}
 use lib.Seq.{take-at, drop-at, drop-drop, take-all, take-take, set-out}
-use borrow.Author.Tests.{lt-ltb, le-ltb, ltb-true, ltb-false, leb-true, leb-false}
-use Rattle.layers.specs.Bytes.{part, over, leOf, leBytes, numberAt, laid}
+use borrow.Author.Tests.{lt-ltb, le-ltb, ltb-true, ltb-false, leb-false}
+use Rattle.layers.specs.Bytes.{part, over, leOf, leBytes, numberAt}
 use Rattle.layers.specs.Items.{pieces}
-use Rattle.layers.proofs.Numbers.{le-read, length-le, number-in, laid-in}
+use Rattle.layers.proofs.Numbers.{le-read, length-le, number-in, laid-in, length-laid}
 use Rattle.layers.proofs.Runs.{drop-take, drop-over, drop-over-after, take-over, length-over}
 use Rattle.layers.proofs.Pieces.{map-set, pieces-set}
 use Rattle.layers.proofs.PieceMoves.{insertAt, removeAt, pieces-insert, pieces-remove, map-insert, map-remove}
@@ -27,14 +27,6 @@ use Rattle.merge.proofs.HeadLaws.{length-head, capacity-same, capacity-
 use Rattle.merge.proofs.StateLaws.{length-nodes}
 
 -- ---- the head put back
-
-pub length-laid : (t : List ℕ) (a : ℕ) (b : List ℕ) → length (laid t a b) ≡ length t
-unfolding laid
-length-laid t a b = go (leb (a + length b) (length t)) refl
-  where
-    go : (c : Bool) → leb (a + length b) (length t) ≡ c → length (cond c (over t a b) t) ≡ length t
-    go true e = length-over t a b (leb-true (a + length b) (length t) e)
-    go false e = refl
 
 module _ (u : List ℕ) (h : Head) (l : 12 ≤ length u) where
   head-over : withHead u h ≡ over u 0 (headBytes h)

@@ -84,7 +84,7 @@ module _ (s : List ℕ) (j : ℕ) (h : j < countOf s) where
     unfolding nodeOf
     length-is = sym (rw node-is (getD-take 52 (drop (12 + 52 * j) s) 15 0 (omega arith) ∙ getD-drop (12 + 52 * j) s 15 0))
 
-    name-is : nodeAt (nodesOf s) j .name ≡ part s (12 + 52 * j + 24) 28
+    pub name-is : nodeAt (nodesOf s) j .name ≡ part s (12 + 52 * j + 24) 28
     unfolding nodeOf
     name-is = rw node-is (part-part s (12 + 52 * j) 52 24 28 (omega arith) (omega arith))
 
@@ -164,8 +164,8 @@ module _ (p : ℕ) (x : Name) (m : Node) (d : ℕ) (q : d ≡ m .parent) where
   pub order-parent-after : d < p → After ≡ orderOf (p ∷ x) (keyOf m)
   order-parent-after h = sym (after-gt p (m .parent) x (nodeName m) (omega arith))
 
-  pub order-by-name : d ≤ p → p ≤ d → (y : Name) (o : Order) → y ≡ nodeName m → o ≡ orderOf x y → o ≡ orderOf (p ∷ x) (keyOf m)
-  order-by-name g h y o e f = f ∙ (ap (orderOf x) e ∙ sym (order-eq p (m .parent) x (nodeName m) (omega arith)))
+  pub order-by-name : d ≤ p → p ≤ d → (o : Order) → o ≡ orderOf x (nodeName m) → o ≡ orderOf (p ∷ x) (keyOf m)
+  order-by-name g h o f = f ∙ sym (order-eq p (m .parent) x (nodeName m) (omega arith))
 
 module _ (ns : List Node) (x : Name) (c j : ℕ) (s : Spot) (n : length ns ≡ c) (inv : spotFrom keyOf j x (drop j ns) ≡ s) where
   spot-at : j < c → spotFrom keyOf j x (drop j ns) ≡ spotStep (orderOf x (keyOf (nodeAt ns j))) j (spotFrom keyOf (suc j) x (drop (suc j) ns))

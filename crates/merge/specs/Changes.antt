@@ -1,6 +1,6 @@
 -- The bytes of a state with a node changed, put in at its place, or taken out. Assumes nothing.
 use mathlib.Core.Bool.{cond}
-use Prim.Native.Nat.{ℕ, _+_, _*_, _-_}
+use Prim.Native.Nat.{ℕ, suc, _+_, _*_, _-_}
 use mathlib.Core.List.{List, _++_}
 use lib.Dec.{ltb}
 use lib.ListN.{replicate}
@@ -54,3 +54,8 @@ newNumber s n = given (newSpot s n) (nextOf s)
 
 abbrev pub newBytes : List ℕ → Node → List ℕ
 newBytes s n = insertedAt s (withNumber n (nextOf s)) (numbered (more (headOf s))) (newSpot s n)
+
+-- where the search for the next name's place starts, this one's having started at `k`: behind the node put in
+unfoldable pub behind : ℕ → Spot → ℕ
+behind k (Free j) = suc j
+behind k Taken = k

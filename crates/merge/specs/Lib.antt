@@ -10,7 +10,9 @@ pub mod Stacks
 pub mod Pushes
 pub mod Fresh
 pub mod Places
+pub mod Tops
 pub mod Changes
 pub mod Load
 pub mod Forget
-pub mod Invariant
+pub mod Tidy
+pub mod Root

@@ -5,10 +5,10 @@ use mathlib.Core.Bool.{Bool, true, false, not, cond}
 use mathlib.Core.List.{List, [], _∷_, map}
 use lib.Dec.{eqb, leb}
 use lib.ListN.{length, take, replicate}
-use Rattle.layers.specs.Bytes.{laid}
+use Rattle.layers.specs.Bytes.{least, laid}
 use Rattle.layers.specs.Names.{Name}
 use Rattle.layers.specs.Search.{one}
-use Rattle.merge.specs.Nodes.{least, nodesOf, nodeAt}
+use Rattle.merge.specs.Nodes.{nodesOf, nodeAt}
 use Rattle.merge.specs.Methods.{withLoaded}
 use Rattle.merge.specs.Heads.{roomOf, numbersLeft}
 use Rattle.merge.specs.State.{findChild, isFound, those}
@@ -16,6 +16,7 @@ use Rattle.merge.specs.Changes.{putBytes, newBytes}
 use Rattle.merge.specs.Tables.{placeName}
 use Rattle.merge.specs.Scan.{mergedNames}
 use Rattle.merge.specs.Stacks.{mergedStack}
+use Rattle.merge.specs.Tops.{Topmost}
 use Rattle.merge.specs.declared.stacks.Pair.{Pair}
 use Rattle.merge.specs.declared.stacks.Stack.{Stack}
 use Rattle.merge.specs.declared.node.Node.{Node}
@@ -98,8 +99,9 @@ pub record KeptPlaces (test : ℕ → Bool) (p : List ℕ) (n r : ℕ) (q : List
   pub within : r ≤ n
   pub long : length q ≡ 512
 
--- the first `r` places stand for the names to add
+-- the first `r` places stand for the names to add, each the topmost of its name
 pub record ToAdd (u l s : List ℕ) (n : Node) (r : ℕ) (q : List ℕ) : Type 0 where
   pub names : map (placeName u l) (take r q) ≡ toAdd u l s n
+  pub topmost : Topmost u l (stackList n) q r
   pub within : r ≤ 512
   pub long : length q ≡ 512

@@ -6,7 +6,7 @@ use mathlib.Core.List.{List, [], _∷_, _++_, map}
 use lib.Dec.{ltb}
 use lib.ListN.{length, take, drop, getD, replicate}
 use Rattle.layers.specs.Names.{Name}
-use Rattle.layers.specs.Bytes.{part, leOf, leBytes, numberAt}
+use Rattle.layers.specs.Bytes.{least, part, leOf, leBytes, numberAt}
 use Rattle.layers.specs.Items.{pieces}
 use Rattle.merge.specs.declared.stacks.Pair.{Pair}
 use Rattle.merge.specs.declared.node.Node.{Node}
@@ -81,9 +81,6 @@ abbrev pub keyOf : Node → Name
 keyOf n = n .parent ∷ nodeName n
 
 -- ---- the nodes of a state
-
-abbrev pub least : ℕ → ℕ → ℕ
-least a b = cond (ltb a b) a b
 
 -- "How many nodes fit follows from the slice's length": those of 52 bytes behind the head, as far as its 4 bytes can count
 unfoldable pub capacity : List ℕ → ℕ

@@ -3,9 +3,9 @@ ghost use mathlib.Core.Path.{_≡_};
 ghost use Prim.Native.Nat.{_+_, _*_, _≤_, _<_};
 ghost use lib.ListN.{length, take, replicate};
 ghost use Rattle.layers.specs.Bytes.{over, part};
-ghost use Rattle.merge.specs.Nodes.{countOf, nodesOf};
-ghost use Rattle.merge.specs.State.{placeFor};
-ghost use Rattle.merge.specs.Changes.{putBytes, insertedBytes, takenBytes, spotFor, putInBytes, newNumber, newBytes};
+ghost use Rattle.merge.specs.Nodes.{countOf, nodesOf, nodeName};
+ghost use Rattle.merge.specs.State.{placeFor, Passed};
+ghost use Rattle.merge.specs.Changes.{putBytes, insertedBytes, takenBytes, spotFor, putInBytes, newSpot, newNumber, newBytes, behind};
 use crate::head;
 use crate::head::Head;
 use crate::node;
@@ -63,27 +63,36 @@ fn move_up(t: &mut [u8], p: usize, q: usize, n: usize)
 
 // ---- a node put in
 
-// The place of a node of parent `p` whose name is the first `l` bytes of `x`.
-fn place_named(s: &[u8], p: u32, x: [u8; 28], l: u8) -> Spot
+// The place of a node of parent `p` whose name is the first `l` bytes of `x`; the first `k` nodes come before it.
+fn place_named(s: &[u8], p: u32, x: [u8; 28], l: u8, k: usize) -> Spot
+    requires { ⌜ Passed (nodesOf (now s)) p (take l x) k ⌝ }
     ensures { λ r. ⌜ r ≡ placeFor (nodesOf (now (s .entry))) p (take l x) ⌝ }
 {
     let n = layers::bytes::wide(l);
     if 28 < n {
-        return state::place(s, p, &x);
+        return state::place_from(s, p, &x, k);
     }
     let a = 0;
-    state::place(s, p, &x[a..n])
+    state::place_from(s, p, &x[a..n], k)
 }
 
-// The place for the node, where a further one fits and its parent has none of its name.
-pub fn spot_for(s: &[u8], n: Node) -> Spot
+// The place for the node, where a further one fits and its parent has none of its name; the first `k` nodes come before it.
+fn spot_from(s: &[u8], n: Node, k: usize) -> Spot
+    requires { ⌜ Passed (nodesOf (now s)) (n .parent) (nodeName n) k ⌝ }
     ensures { λ r. ⌜ r ≡ spotFor (now (s .entry)) n ⌝ }
 {
     if head::is_full(s) {
         return Spot::Taken;
     }
     let x = n.name;
-    place_named(s, n.parent, x, n.length)
+    place_named(s, n.parent, x, n.length, k)
+}
+
+// The same, from the first node on.
+pub fn spot_for(s: &[u8], n: Node) -> Spot
+    ensures { λ r. ⌜ r ≡ spotFor (now (s .entry)) n ⌝ }
+{
+    spot_from(s, n, 0)
 }
 
 fn insert(s: &mut [u8], k: usize, n: Node, h: Head)
@@ -109,21 +118,33 @@ pub fn put_in(s: &mut [u8], n: Node)
     insert(s, k, n, h);
 }
 
-// The node put in at its place with the next number, which is answered; 0 where no number or no place is left.
+// The node put in at its place with the next number, the first `k` nodes coming before it; answers the place behind it, `k` where no number or no place is left.
+pub(crate) fn put_new_from(s: &mut [u8], n: Node, k: usize) -> usize
+    requires { ⌜ Passed (nodesOf (now s)) (n .parent) (nodeName n) k ⌝ }
+    ensures { λ r. ⌜ (r ≡ behind k (newSpot (now (s .entry)) n)) × (now (s .exit) ≡ newBytes (now (s .entry)) n) ⌝ }
+{
+    let x = head::next_number(s);
+    if 4294967295 < x {
+        return k;
+    }
+    let f = spot_from(s, n, k);
+    let Spot::Free(j) = f else {
+        return k;
+    };
+    let h = head::head_of(s).more().numbered();
+    let m = n.with_number(x as u32);
+    insert(s, j, m, h);
+    j + 1
+}
+
+// The same, from the first node on; answers the number, 0 where no number or no place is left.
 pub fn put_new(s: &mut [u8], n: Node) -> u32
     ensures { λ r. ⌜ (r ≡ newNumber (now (s .entry)) n) × (now (s .exit) ≡ newBytes (now (s .entry)) n) ⌝ }
 {
     let x = head::next_number(s);
-    if 4294967295 < x {
+    if put_new_from(s, n, 0) == 0 {
         return 0;
     }
-    let f = spot_for(s, n);
-    let Spot::Free(k) = f else {
-        return 0;
-    };
-    let h = head::head_of(s).more().numbered();
-    let m = n.with_number(x as u32);
-    insert(s, k, m, h);
     x as u32
 }
 

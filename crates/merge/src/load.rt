@@ -2,12 +2,16 @@
 ghost use mathlib.Core.Path.{_≡_};
 ghost use Prim.Native.Nat.{_≤_};
 ghost use mathlib.Core.List.{map};
-ghost use lib.ListN.{length, take, replicate};
-ghost use Rattle.layers.specs.Bytes.{laid};
+ghost use lib.ListN.{length, take};
 ghost use Rattle.layers.specs.Search.{one};
+ghost use Rattle.layers.specs.Sorted.{Sorted};
+ghost use Rattle.layers.specs.declared.search.Found.the-variants.{At};
 ghost use Rattle.merge.specs.Tables.{placeName};
-ghost use Rattle.merge.specs.Nodes.{nodesOf, least};
+ghost use Rattle.merge.specs.Nodes.{nodesOf};
+ghost use Rattle.merge.specs.State.{Passed, PassedNext};
+ghost use Rattle.merge.specs.Scan.{scanned};
 ghost use Rattle.merge.specs.Stacks.{mergedStack};
+ghost use Rattle.merge.specs.Tops.{topPlace, Topmost};
 ghost use Rattle.merge.specs.Changes.{newBytes};
 ghost use Rattle.merge.specs.Load.{newNode, hasNone, addNames, isLoaded, suffices, loadAnswer, loadBytes, placeHasNone, KeptPlaces, ToAdd};
 use crate::change;
@@ -29,25 +33,6 @@ pub enum Loading {
 
 // ---- a new node
 
-// A name with zeros behind it.
-fn padded(x: &[u8]) -> [u8; 28]
-    ensures { λ r. ⌜ r ≡ laid (replicate 28 0) 0 (now (x .entry)) ⌝ }
-{
-    let mut a = [0u8; 28];
-    layers::bytes::lay(&mut a, 0, x);
-    a
-}
-
-// `n`, or `m` where that is less.
-fn at_most(m: u8, n: usize) -> u8
-    ensures { λ r. ⌜ r ≡ least m n ⌝ }
-{
-    if layers::bytes::wide(m) < n {
-        return m;
-    }
-    n as u8
-}
-
 fn mark(w: bool) -> u8
     ensures { λ r. ⌜ r ≡ one w ⌝ }
 {
@@ -62,15 +47,15 @@ pub fn new_node(p: u32, st: Stack, x: &[u8]) -> Node
     ensures { λ r. ⌜ r ≡ newNode p st (now (x .entry)) ⌝ }
 {
     let a = st.pairs;
-    let b = padded(x);
+    let b = layers::names::padded(x);
     Node {
         number: 0,
         parent: p,
         count: 1,
         white: mark(st.whiteout),
         loaded: 0,
-        depth: at_most(4, st.length),
-        length: at_most(28, x.len()),
+        depth: layers::bytes::at_most(4, st.length),
+        length: layers::bytes::at_most(28, x.len()),
         stack: a,
         name: b,
     }
@@ -117,7 +102,7 @@ fn keep_missing<'a>(
 
 // ---- nodes for them
 
-// A node for the name `x` below the node of number `p`, whose stack is the first `d` of `a`.
+// A node for the name `x`, found at the place `q`, below the node of number `p`, whose stack is the first `d` of `a`; answers how many nodes come before every later name.
 fn add_name<'a>(
     s: &mut [u8],
     upper: &'a [u8],
@@ -126,12 +111,15 @@ fn add_name<'a>(
     a: [Pair; 4],
     d: usize,
     x: &[u8],
-)
-    ensures { λ _. ⌜ now (s .exit) ≡ newBytes (now (s .entry)) (newNode p (mergedStack (now (upper .entry)) (now (lower .entry)) (take d a) (now (x .entry))) (now (x .entry))) ⌝ }
+    q: u16,
+    k: usize,
+) -> usize
+    requires { ⌜ (length (now x) ≤ 28) × Passed (nodesOf (now s)) p (now x) k × (now x ≡ placeName (now upper) (now lower) q) × (topPlace (now upper) (now lower) (now x) (scanned (now upper) (now lower) (take d a)) ≡ At q) ⌝ }
+    ensures { λ r. ⌜ (now (s .exit) ≡ newBytes (now (s .entry)) (newNode p (mergedStack (now (upper .entry)) (now (lower .entry)) (take d a) (now (x .entry))) (now (x .entry)))) × PassedNext (nodesOf (now (s .exit))) p (now (x .entry)) r ⌝ }
 {
-    let st = stacks::new_from_real_inodes(upper, lower, a, d, x);
+    let st = stacks::new_from_place(upper, lower, a, d, x, q);
     let n = new_node(p, st, x);
-    change::put_new(s, n);
+    change::put_new_from(s, n, k)
 }
 
 fn add_names<'a>(
@@ -144,19 +132,23 @@ fn add_names<'a>(
     q: &[u16],
     m: usize,
 )
-    requires { ⌜ (length (now q) ≡ 512) × (m ≤ 512) ⌝ }
+    requires { ⌜ (length (now q) ≡ 512) × (m ≤ 512) × Sorted (λ x. x) (map (placeName (now upper) (now lower)) (take m (now q))) × Topmost (now upper) (now lower) (take d a) (now q) m ⌝ }
     ensures { λ _. ⌜ now (s .exit) ≡ addNames (now (upper .entry)) (now (lower .entry)) p (take d a) (map (placeName (now (upper .entry)) (now (lower .entry))) (take m (now (q .entry)))) (now (s .entry)) ⌝ }
 {
+    let mut k: usize = 0;
     let mut i: usize = 0;
     while i < m {
-        add_name(
+        let e = q[i];
+        k = add_name(
             s,
             upper,
             lower,
             p,
             a,
             d,
-            tables::place_name(upper, lower, q[i]),
+            tables::place_name(upper, lower, e),
+            e,
+            k,
         );
         i += 1;
     }
@@ -170,7 +162,7 @@ fn is_loaded(n: Node) -> bool
     n.loaded != 0
 }
 
-fn has_room(s: &[u8], k: usize) -> bool
+pub fn has_room(s: &[u8], k: usize) -> bool
     ensures { λ r. ⌜ r ≡ suffices (now (s .entry)) k ⌝ }
 {
     if head::room(s) < k {
@@ -187,7 +179,11 @@ fn to_add<'a>(s: &[u8], upper: &'a [u8], lower: &'a [u8], n: Node, p: &mut [u16]
     let a = n.stack;
     let d = layers::bytes::wide(n.depth);
     let k = scan::scan_childrens(upper, lower, a, d, p);
-    keep_missing(s, upper, lower, n.number as u64, p, k)
+    let x = n.number as u64;
+    if state::has_children(s, x) {
+        return keep_missing(s, upper, lower, x, p, k);
+    }
+    k
 }
 
 // Loads the directory whose node stands at place `j`.

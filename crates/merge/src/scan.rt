@@ -67,7 +67,7 @@ fn insert<'a>(upper: &'a [u8], lower: &'a [u8], p: &mut [u16], n: usize, q: u16)
 
 // ---- the scan
 
-fn in_directory(t: &[u8], j: usize, d: u8) -> bool
+pub(crate) fn in_directory(t: &[u8], j: usize, d: u8) -> bool
     requires { ⌜ length (now t) ≡ 8192 ⌝ }
     ensures { λ r. ⌜ r ≡ inDirectory d (entryAt (entriesOf (now (t .entry))) j) ⌝ }
 {

@@ -1,10 +1,15 @@
 // The merged stack of one name.
 ghost use mathlib.Core.Path.{_≡_};
 ghost use Prim.Native.Nat.{_+_, _≤_, _<_};
-ghost use lib.ListN.{length, take};
+ghost use lib.ListN.{length, take, getD};
 ghost use Rattle.layers.specs.Items.{entriesOf};
+ghost use Rattle.layers.specs.declared.search.Found.the-variants.{At};
 ghost use Rattle.merge.specs.Classes.{isWhiteout, classOf, classAt, named, seenOf};
 ghost use mathlib.Core.Bool.{false};
+ghost use Rattle.merge.specs.Nodes.{noPair};
+ghost use Rattle.merge.specs.Tables.{tableOf, placeName};
+ghost use Rattle.merge.specs.Scan.{scanned};
+ghost use Rattle.merge.specs.Tops.{topPlace, holdsPlace, Known, Above};
 ghost use Rattle.merge.specs.Stacks.{pair, stackFrom, mergedStack};
 ghost use Rattle.merge.specs.Fresh.{rootStack};
 ghost use Rattle.merge.specs.Pushes.{noStack, push, marked, withReal, withSeen, endsMerge, endsSeen};
@@ -42,7 +47,7 @@ pub struct Stack {
 
 // ---- what a layer has under a name
 
-fn is_whiteout(r: Record) -> bool
+pub fn is_whiteout(r: Record) -> bool
     ensures { λ b. ⌜ b ≡ isWhiteout r ⌝ }
 {
     if r.kind != 2 {
@@ -86,16 +91,35 @@ pub fn named_in(t: &[u8], d: u8, x: &[u8]) -> u8
     layers::search::child_at(t, j)
 }
 
+// The same, where the entry is `j` if that is below 128.
+fn named_known(t: &[u8], d: u8, x: &[u8], j: usize) -> u8
+    requires { ⌜ (length (now t) ≡ 8192) × Known (entriesOf (now t)) d (now x) j ⌝ }
+    ensures { λ r. ⌜ r ≡ named (entriesOf (now (t .entry))) d (now (x .entry)) ⌝ }
+{
+    if j < 128 {
+        return layers::search::child_at(t, j);
+    }
+    named_in(t, d, x)
+}
+
+// What `x` is in the directory `d`, where its entry is `j` if that is below 128.
+fn seen_known(t: &[u8], d: u8, x: &[u8], j: usize) -> Seen
+    requires { ⌜ (length (now t) ≡ 8192) × Known (entriesOf (now t)) d (now x) j ⌝ }
+    ensures { λ r. ⌜ r ≡ seenOf (now (t .entry)) d (now (x .entry)) ⌝ }
+{
+    let n = named_known(t, d, x, j);
+    if n == 0 {
+        return Seen::Nothing;
+    }
+    Seen::There(class_at(t, d, n), n)
+}
+
 // What `x` is in the directory `d`.
 pub fn seen_in(t: &[u8], d: u8, x: &[u8]) -> Seen
     requires { ⌜ length (now t) ≡ 8192 ⌝ }
     ensures { λ r. ⌜ r ≡ seenOf (now (t .entry)) d (now (x .entry)) ⌝ }
 {
-    let n = named_in(t, d, x);
-    if n == 0 {
-        return Seen::Nothing;
-    }
-    Seen::There(class_at(t, d, n), n)
+    seen_known(t, d, x, 128)
 }
 
 // ---- records put into a stack
@@ -188,17 +212,22 @@ fn ends_seen(f: Seen) -> bool
 }
 
 // The merged stack of the name `x` below the first `len` of the stack `s`: each scanned directory's record of that name, put in until one ends it.
-pub fn new_from_real_inodes<'a>(
+// No directory before place `b` has the name, and its entry in that one is `e` if that is below 128.
+fn stack_from<'a>(
     upper: &'a [u8],
     lower: &'a [u8],
     s: [Pair; 4],
     len: usize,
     x: &[u8],
+    b: usize,
+    e: usize,
 ) -> Stack
+    requires { ⌜ (b ≤ 4) × Above (now upper) (now lower) (take len s) (now x) b × Known (entriesOf (tableOf (now upper) (now lower) (getD s b noPair .layer))) (getD s b noPair .number) (now x) e ⌝ }
     ensures { λ r. ⌜ (r ≡ mergedStack (now (upper .entry)) (now (lower .entry)) (take len s) (now (x .entry))) × (r .length ≤ 4) ⌝ }
 {
     let mut out = no_stack();
-    let mut i: usize = 0;
+    let mut j = e;
+    let mut i = b;
     while i < len {
         if i == 4 {
             return out;
@@ -208,7 +237,7 @@ pub fn new_from_real_inodes<'a>(
         let d = a.number;
         let t = tables::table_at(upper, lower, layers::bytes::wide(k));
         if scan::is_walked(t, d) {
-            let f = seen_in(t, d, x);
+            let f = seen_known(t, d, x, j);
             out = with_seen(out, k, f);
             if ends_seen(f) {
                 return out;
@@ -216,12 +245,66 @@ pub fn new_from_real_inodes<'a>(
             if scan::ends_scan(t, d) {
                 return out;
             }
+            j = 128;
             i += 1;
         } else {
             return out;
         }
     }
     out
+}
+
+// The same, from the top of the stack on.
+pub fn new_from_real_inodes<'a>(
+    upper: &'a [u8],
+    lower: &'a [u8],
+    s: [Pair; 4],
+    len: usize,
+    x: &[u8],
+) -> Stack
+    ensures { λ r. ⌜ (r ≡ mergedStack (now (upper .entry)) (now (lower .entry)) (take len s) (now (x .entry))) × (r .length ≤ 4) ⌝ }
+{
+    stack_from(upper, lower, s, len, x, 0, 128)
+}
+
+// Whether the entry at the place `q` of all layers stands in the directory `d` of layer `k`.
+fn holds_place<'a>(upper: &'a [u8], lower: &'a [u8], k: u8, d: u8, q: u16) -> bool
+    ensures { λ r. ⌜ r ≡ holdsPlace (now (upper .entry)) (now (lower .entry)) k d q ⌝ }
+{
+    if k as u16 != q / 128 {
+        return false;
+    }
+    let t = tables::table_at(upper, lower, layers::bytes::wide(k));
+    if t.len() != 8192 {
+        return false;
+    }
+    scan::in_directory(t, (q % 128) as usize, d)
+}
+
+// The same for a name `x` that the scan found at the place `q`: from the directory of that place on, by its entry.
+pub(crate) fn new_from_place<'a>(
+    upper: &'a [u8],
+    lower: &'a [u8],
+    s: [Pair; 4],
+    len: usize,
+    x: &[u8],
+    q: u16,
+) -> Stack
+    requires { ⌜ (now x ≡ placeName (now upper) (now lower) q) × (topPlace (now upper) (now lower) (now x) (scanned (now upper) (now lower) (take len s)) ≡ At q) ⌝ }
+    ensures { λ r. ⌜ (r ≡ mergedStack (now (upper .entry)) (now (lower .entry)) (take len s) (now (x .entry))) × (r .length ≤ 4) ⌝ }
+{
+    let mut i: usize = 0;
+    while i < len {
+        if i == 4 {
+            return new_from_real_inodes(upper, lower, s, len, x);
+        }
+        let a = s[i];
+        if holds_place(upper, lower, a.layer, a.number, q) {
+            return stack_from(upper, lower, s, len, x, i, (q % 128) as usize);
+        }
+        i += 1;
+    }
+    new_from_real_inodes(upper, lower, s, len, x)
 }
 
 // The root's stack: every layer's root, topmost first.

@@ -1,3 +1,4 @@
+use Rattle.merge.proofs.PassedLaws.{passed-long, passed-short}
 use Rattle.merge.proofs.ChangeLaws.{place-long, place-short}
 use borrow.Author.Needs.{needs}
 use Rattle.merge.proofs.change.place_named.Statement.{statement}
@@ -6,26 +7,26 @@ use Rattle.merge.proofs.change.place_named.Tie as tie
 wide-requires : tie.Need-wide-requires
 wide-requires c κs = search needs
 
-slice-aggregate-place : tie.Need-slice-aggregate-place
-slice-aggregate-place c = search needs
+slice-aggregate-place-from : tie.Need-slice-aggregate-place-from
+slice-aggregate-place-from c = search needs
 
-place-requires : tie.Need-place-requires
-place-requires c κs = search needs
+place-from-requires : tie.Need-place-from-requires
+place-from-requires c κs = search (passed-long, passed-short, needs)
 
 returns : tie.Need-returns
 returns c = search (place-long, place-short, needs)
 
-sub-place : tie.Need-sub-place
-sub-place c = search needs
+sub-place-from : tie.Need-sub-place-from
+sub-place-from c = search needs
 
-part-place-start : tie.Need-part-place-start
-part-place-start c = search needs
+part-place-from-start : tie.Need-part-place-from-start
+part-place-from-start c = search needs
 
-part-place-end : tie.Need-part-place-end
-part-place-end c = search needs
+part-place-from-end : tie.Need-part-place-from-end
+part-place-from-end c = search needs
 
-place-requires-2 : tie.Need-place-requires-2
-place-requires-2 c κs = search needs
+place-from-requires-2 : tie.Need-place-from-requires-2
+place-from-requires-2 c κs = search (passed-long, passed-short, needs)
 
 returns-2 : tie.Need-returns-2
 returns-2 c = search (place-long, place-short, needs)
@@ -35,11 +36,11 @@ place-named-spec =
     tie.close
     (tie.spec
     wide-requires
-    slice-aggregate-place
-    place-requires
+    slice-aggregate-place-from
+    place-from-requires
     returns
-    sub-place
-    part-place-start
-    part-place-end
-    place-requires-2
+    sub-place-from
+    part-place-from-start
+    part-place-from-end
+    place-from-requires-2
     returns-2)

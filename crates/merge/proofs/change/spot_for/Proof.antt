@@ -1,22 +1,13 @@
-use Rattle.layers.proofs.Cases.{cases}
-use Rattle.merge.specs.Changes.{spotFor}
+use Rattle.merge.proofs.PassedLaws.{none-passed}
 use borrow.Author.Needs.{needs}
 use Rattle.merge.proofs.change.spot_for.Statement.{statement}
 use Rattle.merge.proofs.change.spot_for.Tie as tie
 
-is-full-requires : tie.Need-is-full-requires
-is-full-requires c κs = search needs
+spot-from-requires : tie.Need-spot-from-requires
+spot-from-requires c κs = search (none-passed, needs)
 
 returns : tie.Need-returns
-unfolding spotFor
-returns c = search (cases, needs)
-
-place-named-requires : tie.Need-place-named-requires
-place-named-requires c κs = search needs
-
-returns-2 : tie.Need-returns-2
-unfolding spotFor
-returns-2 c = search (cases, needs)
+returns c = search needs
 
 pub spot-for-spec : {M : Type 1} → statement M
-spot-for-spec = tie.close (tie.spec is-full-requires returns place-named-requires returns-2)
+spot-for-spec = tie.close (tie.spec spot-from-requires returns)

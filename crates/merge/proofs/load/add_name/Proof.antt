@@ -1,24 +1,25 @@
+use Rattle.merge.proofs.BehindLaws.{node-passed, added-passes}
 use Rattle.merge.proofs.LoadLaws.{added-name}
 use borrow.Author.Needs.{needs}
 use Rattle.merge.proofs.load.add_name.Statement.{statement}
 use Rattle.merge.proofs.load.add_name.Tie as tie
 
-new-from-real-inodes-requires : tie.Need-new-from-real-inodes-requires
-new-from-real-inodes-requires c κs = search needs
+new-from-place-requires : tie.Need-new-from-place-requires
+new-from-place-requires c κs = search needs
 
 new-node-requires : tie.Need-new-node-requires
 new-node-requires c κs = search needs
 
-put-new-requires : tie.Need-put-new-requires
-put-new-requires c κs = search needs
+put-new-from-requires : tie.Need-put-new-from-requires
+put-new-from-requires c κs = search (node-passed, needs)
 
 same-length : tie.Need-same-length
 same-length c = search needs
 
 returns : tie.Need-returns
-returns c = search (added-name, needs)
+returns c = (search (added-name, needs), search (added-passes, needs))
 
 pub add-name-spec : {M : Type 1} → statement M
 add-name-spec =
     tie.close
-    (tie.spec new-from-real-inodes-requires new-node-requires put-new-requires same-length returns)
+    (tie.spec new-from-place-requires new-node-requires put-new-from-requires same-length returns)

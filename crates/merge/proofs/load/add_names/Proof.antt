@@ -1,5 +1,6 @@
+use Rattle.merge.proofs.BehindLaws.{Adding, adding-start, adding-this, adding-next, place-short}
 use denote.Ref.{now}
-use Rattle.merge.proofs.LoadLaws.{add-next, add-end}
+use Rattle.merge.proofs.LoadLaws.{top-this, add-next, add-end}
 use Rattle.merge.specs.Load.{addNames}
 use Rattle.merge.specs.Tables.{placeName}
 use lib.ListN.{length, take, drop}
@@ -11,25 +12,25 @@ use Rattle.merge.proofs.load.add_names.Statement.{statement}
 use Rattle.merge.proofs.load.add_names.Tie as tie
 
 abbrev Inv-loop : tie.InvT-loop
-Inv-loop s₀ upper lower p a d q m i₀ s i = (i ≤ m) × (length s ≡ length s₀) × (addNames upper lower p (take d a) (map (placeName upper lower) (drop i (take m q))) s ≡ addNames upper lower p (take d a) (map (placeName upper lower) (take m q)) s₀)
+Inv-loop s₀ upper lower p a d q m k₀ i₀ s k i = (i ≤ m) × (length s ≡ length s₀) × Adding upper lower p q m s k i × (addNames upper lower p (take d a) (map (placeName upper lower) (drop i (take m q))) s ≡ addNames upper lower p (take d a) (map (placeName upper lower) (take m q)) s₀)
 
 abbrev μ-loop : tie.MeasureT-loop
-μ-loop s₀ upper lower p a d q m i₀ s i = m - i
+μ-loop s₀ upper lower p a d q m k₀ i₀ s k i = m - i
 
 loop-holds : tie.Need-loop-holds Inv-loop μ-loop
-loop-holds c = search needs
+loop-holds c = (search needs, search needs, search (adding-start, needs), search needs)
 
-mul-place-name : tie.Need-mul-place-name Inv-loop μ-loop
-mul-place-name c = search needs
+mul-e : tie.Need-mul-e Inv-loop μ-loop
+mul-e c = search needs
 
-shared-slice-read-place-name : tie.Need-shared-slice-read-place-name Inv-loop μ-loop
-shared-slice-read-place-name c = search needs
+shared-slice-read-e : tie.Need-shared-slice-read-e Inv-loop μ-loop
+shared-slice-read-e c = search needs
 
 place-name-requires : tie.Need-place-name-requires Inv-loop μ-loop
 place-name-requires c κs = search needs
 
 add-name-requires : tie.Need-add-name-requires Inv-loop μ-loop
-add-name-requires c κs = search needs
+add-name-requires c κs = (search (place-short, needs), search (adding-this, needs), search needs, search (top-this, needs))
 
 add-i : tie.Need-add-i Inv-loop μ-loop
 add-i c = search needs
@@ -38,7 +39,7 @@ loop-less : tie.Need-loop-less Inv-loop μ-loop
 loop-less c = search needs
 
 loop-again : tie.Need-loop-again Inv-loop μ-loop
-loop-again c = (search needs, search needs, add-next (c .before .before .before .before .before .before .before .before .before .before .before .before .args .upper .now) (c .before .before .before .before .before .before .before .before .before .before .before .before .args .lower .now) (c .before .before .before .before .before .before .before .before .before .before .before .before .args .p) (take (c .before .before .before .before .before .before .before .before .before .before .before .before .args .d) (c .before .before .before .before .before .before .before .before .before .before .before .before .args .a)) (c .before .before .before .before .before .before .before .before .before .before .before .before .args .q .now) (c .before .before .before .before .before .before .before .before .before .before .before .before .args .m) (c .before .before .before .before .before .before .before .loop .i) (c .before .before .before .before .before .before .before .loop .s) (c .before .before .add-name .last .0) _ (now (c .before .before .before .place-name .result)) (c .before .before .before .before .before .before .before .before .before .before .before .before .pre .0) (c .before .before .before .before .before .before .before .before .before .before .before .before .pre .1) (c .before .before .before .before .before .before .loop-test .taken) (c .before .before .before .place-name .ensures) (c .before .before .add-name .ensures) (c .before .before .before .before .before .before .before .loop .inv .2))
+loop-again c = (search needs, search needs, adding-next (c .before .before .before .before .before .before .before .before .before .before .before .before .args .upper .now) (c .before .before .before .before .before .before .before .before .before .before .before .before .args .lower .now) (c .before .before .before .before .before .before .before .before .before .before .before .before .args .p) (c .before .before .before .before .before .before .before .before .before .before .before .before .args .q .now) (c .before .before .before .before .before .before .before .before .before .before .before .before .args .m) (c .before .before .before .before .before .before .before .loop .i) (now (c .before .before .before .place-name .result)) (c .before .before .before .before .before .before .loop-test .taken) (c .before .before .before .place-name .ensures) (c .before .before .add-name .last .0) (c .before .before .add-name .result) (c .before .before .before .before .before .before .before .before .before .before .before .before .pre .0) (c .before .before .before .before .before .before .before .before .before .before .before .before .pre .1) (c .before .before .before .before .before .before .before .before .before .before .before .before .pre .2) (c .before .before .add-name .ensures .1), add-next (c .before .before .before .before .before .before .before .before .before .before .before .before .args .upper .now) (c .before .before .before .before .before .before .before .before .before .before .before .before .args .lower .now) (c .before .before .before .before .before .before .before .before .before .before .before .before .args .p) (take (c .before .before .before .before .before .before .before .before .before .before .before .before .args .d) (c .before .before .before .before .before .before .before .before .before .before .before .before .args .a)) (c .before .before .before .before .before .before .before .before .before .before .before .before .args .q .now) (c .before .before .before .before .before .before .before .before .before .before .before .before .args .m) (c .before .before .before .before .before .before .before .loop .i) (c .before .before .before .before .before .before .before .loop .s) (c .before .before .add-name .last .0) _ (now (c .before .before .before .place-name .result)) (c .before .before .before .before .before .before .before .before .before .before .before .before .pre .0) (c .before .before .before .before .before .before .before .before .before .before .before .before .pre .1) (c .before .before .before .before .before .before .loop-test .taken) (c .before .before .before .place-name .ensures) (c .before .before .add-name .ensures .0) (c .before .before .before .before .before .before .before .loop .inv .3))
 
 same-length : tie.Need-same-length Inv-loop μ-loop
 same-length c = search needs
@@ -53,8 +54,8 @@ add-names-spec =
     Inv-loop
     μ-loop
     loop-holds
-    mul-place-name
-    shared-slice-read-place-name
+    mul-e
+    shared-slice-read-e
     place-name-requires
     add-name-requires
     add-i

@@ -1,4 +1,5 @@
-use Rattle.merge.proofs.LoadLaws.{loaded-before, loaded-same, load-done, load-added, load-refused, load-unchanged}
+use Rattle.merge.proofs.BehindLaws.{to-add-sorted}
+use Rattle.merge.proofs.LoadLaws.{to-add-topmost, loaded-before, loaded-same, load-done, load-added, load-refused, load-unchanged}
 use borrow.Author.Needs.{needs}
 use Rattle.merge.proofs.load.load_directory.Statement.{statement}
 use Rattle.merge.proofs.load.load_directory.Tie as tie
@@ -37,7 +38,7 @@ slice-aggregate-add-names : tie.Need-slice-aggregate-add-names
 slice-aggregate-add-names c = search needs
 
 add-names-requires : tie.Need-add-names-requires
-add-names-requires c κs = search needs
+add-names-requires c κs = (search needs, search needs, to-add-sorted _ _ _ _ _ _ (c .before .before .before .before .before .before .before .before .before .before .before .before .before .to-add .ensures), to-add-topmost _ _ _ _ _ _ _ (c .before .before .before .before .before .before .before .before .before .before .before .before .before .to-add .ensures) (c .before .before .before .before .before .before .before .wide .ensures .0))
 
 same-length-2 : tie.Need-same-length-2
 same-length-2 c = search needs

@@ -12,11 +12,8 @@ returns c = search (order-parent-before, order-parent-after, order-by-name, need
 returns-2 : tie.Need-returns-2
 returns-2 c = search (order-parent-before, order-parent-after, order-by-name, needs)
 
-name-in-requires : tie.Need-name-in-requires
-name-in-requires c κs = search needs
-
-compare-requires : tie.Need-compare-requires
-compare-requires c κs = search needs
+order-named-requires : tie.Need-order-named-requires
+order-named-requires c κs = search needs
 
 returns-3 : tie.Need-returns-3
 returns-3 c = search (order-parent-before, order-parent-after, order-by-name, needs)
@@ -24,4 +21,4 @@ returns-3 c = search (order-parent-before, order-parent-after, order-by-name, ne
 pub order-at-spec : {M : Type 1} → statement M
 order-at-spec =
     tie.close
-    (tie.spec parent-in-requires returns returns-2 name-in-requires compare-requires returns-3)
+    (tie.spec parent-in-requires returns returns-2 order-named-requires returns-3)
