@@ -1,11 +1,14 @@
 -- The page loop: the children's entries, as the code writes them. Assumes nothing.
 use mathlib.Core.Path.{_≡_, refl, sym, ap, _∙_}
-use Prim.Native.Nat.{ℕ, _+_, _≤_, _<_}
+use Prim.Native.Nat.{ℕ, _+_, _-_, _≤_, _<_}
 use native.Mathlib.Omega.{arith}
-use mathlib.Core.Bool.{Bool, true, false}
+use mathlib.Core.Bool.{Bool, true, false, not}
+use borrow.Author.Tests.{not-true, not-false}
 use mathlib.Core.List.{List, _∷_}
 use lib.ListN.{length, take, drop, getD}
 use lib.Seq.{take-all}
+use mir.Syntax.{w64}
+use mir.Val.{Fits}
 use Rattle.layers.specs.Names.{Name}
 use Rattle.layers.specs.declared.search.Found.{Found}
 use Rattle.layers.specs.declared.search.Found.the-variants.{At, Missing}
@@ -54,14 +57,36 @@ module _ (o limit : ℕ) (t : List ℕ) (at i : ℕ) (u l : List ℕ) (n : Node)
 -- ---- the loop
 
 -- where the next child stands
-pub record Stands (s : List ℕ) (k j : ℕ) : Type 0 where
-  pub after : k ≤ j
-  pub below : j < countOf s
-  pub most : countOf s ≤ 4294967295
+record Stands (s : List ℕ) (k j : ℕ) : Type 0 where
+  after : k ≤ j
+  below : j < countOf s
+  most : countOf s ≤ 4294967295
 
-pub child-stands : (s : List ℕ) (x k : ℕ) (f : Found) → f ≡ childFrom (nodesOf s) x k → (j : ℕ) → f ≡ At j → Stands s k j
-child-stands s x k f q j h =
-    record { after = child-after (nodesOf s) x k f q j h; below = rw (← length-nodes s) (child-below (nodesOf s) x k f q j h); most = count-most s }
+module _ (s : List ℕ) (x k : ℕ) (f : Found) (f-is : f ≡ childFrom (nodesOf s) x k) (j : ℕ) (h : f ≡ At j) where
+  stands : Stands s k j
+  stands = record { after = child-after (nodesOf s) x k f f-is j h; below = rw (← length-nodes s) (child-below (nodesOf s) x k f f-is j h); most = count-most s }
+
+  pub next-fits : Fits w64 (j + 1)
+  next-fits = omega (arith, stands)
+
+  pub next-below : j + 1 ≤ countOf s
+  next-below = omega (arith, stands)
+
+  pub next-less : countOf s - (j + 1) < countOf s - k
+  next-less = omega (arith, stands)
+
+  -- an index is at most 2 above how many nodes were passed
+  module _ (i : ℕ) (most : i ≤ k + 2) where
+    pub index-fits : Fits w64 (i + 1)
+    index-fits = omega (arith, stands, most)
+
+    pub index-same : i ≤ j + 1 + 2
+    index-same = omega (arith, stands, most)
+
+    pub index-next : i + 1 ≤ j + 1 + 2
+    index-next = omega (arith, stands, most)
+
+pub ruleset next-child = (next-fits, next-below, next-less, index-fits, index-same, index-next)
 
 module _ (o limit i at : ℕ) (t u l : List ℕ) (x : ℕ) (ns : List Node) (k : ℕ) (z : Filled) (inv : fill o limit i at t (childDirents u l x (drop k ns)) ≡ z) (f : Found) (f-is : f ≡ childFrom ns x k) where
   pub children-end : f ≡ Missing → filled at false t ≡ z
@@ -69,12 +94,12 @@ module _ (o limit i at : ℕ) (t u l : List ℕ) (x : ℕ) (ns : List Node) (k :
   children-end h = ap (fill o limit i at t) (sym (no-child ns x k f f-is h u l)) ∙ inv
 
   module _ (j : ℕ) (h : f ≡ At j) (n : Node) (n-is : n ≡ nodeAt ns j) (b : Bool) (b-is : b ≡ isWhite n) where
-    pub children-white : b ≡ true → fill o limit i at t (childDirents u l x (drop (j + 1) ns)) ≡ z
-    children-white e = ap (fill o limit i at t) (sym (white-child ns x k f f-is j h u l n n-is b b-is e)) ∙ inv
+    pub children-white : not b ≡ false → fill o limit i at t (childDirents u l x (drop (j + 1) ns)) ≡ z
+    children-white e = ap (fill o limit i at t) (sym (white-child ns x k f f-is j h u l n n-is b b-is (not-false b e))) ∙ inv
 
-    module _ (e : b ≡ false) (r : Put) (v : List ℕ) (p : r ≡ entryAnswer o limit t at i (direntOf u l (take (n .length) (n .name)) n)) (q : v ≡ entryOver o limit t at i (direntOf u l (take (n .length) (n .name)) n)) where
+    module _ (e : not b ≡ true) (r : Put) (v : List ℕ) (p : r ≡ entryAnswer o limit t at i (direntOf u l (take (n .length) (n .name)) n)) (q : v ≡ entryOver o limit t at i (direntOf u l (take (n .length) (n .name)) n)) where
       left : fill o limit i at t (direntOf u l (nodeName n) n ∷ childDirents u l x (drop (j + 1) ns)) ≡ z
-      left = ap (fill o limit i at t) (sym (live-child ns x k f f-is j h u l n n-is b b-is e)) ∙ inv
+      left = ap (fill o limit i at t) (sym (live-child ns x k f f-is j h u l n n-is b b-is (not-true b e))) ∙ inv
 
       pub children-next : (a : ℕ) → r ≡ Next a → fill o limit (i + 1) a v (childDirents u l x (drop (j + 1) ns)) ≡ z
       children-next a g = fill-next o limit t at i (direntOf u l (nodeName n) n) r v p q (childDirents u l x (drop (j + 1) ns)) a g ∙ left

@@ -1,34 +1,19 @@
 -- The bytes of an entry of a listing, as the code writes them, and how many they are. Assumes nothing.
 use mathlib.Core.Path.{_≡_, refl, ap, _∙_}
-use mathlib.Core.Bool.{Bool, true, false, cond}
+use mathlib.Core.Bool.{true, false}
 use Prim.Native.Nat.{ℕ, zero, suc, _+_, _-_, _%_, _≤_, _<_}
 use native.Mathlib.Omega.{arith}
 use mathlib.Core.List.{List, _∷_, _++_, append-assoc}
-use lib.Dec.{ltb, leb}
+use lib.Dec.{leb}
 use lib.ListN.{length, take, replicate, length-append, length-replicate}
-use borrow.Author.Tests.{le-leb, lt-leb, lt-ltb, le-ltb, ltb-true}
-use Rattle.layers.specs.Bytes.{over, leBytes, laid}
+use borrow.Author.Tests.{le-leb, lt-leb}
+use Rattle.layers.specs.Bytes.{least, over, leBytes, laid}
 use Rattle.layers.specs.Names.{Name}
 use Rattle.layers.proofs.Numbers.{le-low, length-le}
 use Rattle.layers.proofs.ItemLaws.{two-laid, laid-next}
-use Rattle.merge.specs.Nodes.{least}
+use Rattle.layers.proofs.Least.{least-right}
 use Rattle.calls.specs.Dirents.{dirent, padding, direntSize, direntBytes, putAnswer, putDirent}
 use Rattle.calls.specs.declared.dirent.Put.the-variants.{Next, Full}
-
--- ---- the smaller of two numbers
-
-pub least-first : (a b : ℕ) → a < b → a ≡ least a b
-least-first a b h = rw (lt-ltb a b h) refl
-
-pub least-second : (a b : ℕ) → b ≤ a → b ≡ least a b
-least-second a b h = rw (le-ltb a b h) refl
-
-pub least-below : (a b : ℕ) → least a b ≤ b
-least-below a b = go (ltb a b) refl
-  where
-    go : (t : Bool) → ltb a b ≡ t → cond t a b ≤ b
-    go true e = omega (arith, ltb-true a b e)
-    go false e = omega arith
 
 -- ---- the steps by which the code writes an entry
 
@@ -96,7 +81,7 @@ module _ (limit : ℕ) (t : List ℕ) (at index inode kind : ℕ) (x : Name) (e 
 
   module _ (h : at ≤ e) (g : length x ≤ e - at) (l : 24 + p ≤ e - at - length x) where
     pub dirent-fits : at + 24 + length x + padding (length x) ≤ length t
-    dirent-fits = let b : least limit (length t) ≤ length t = least-below limit (length t) in omega arith
+    dirent-fits = let b : least limit (length t) ≤ length t = least-right limit (length t) in omega arith
 
     there : leb (at + (24 + length x + padding (length x))) (least limit (length t)) ≡ true
     there = le-leb (at + (24 + length x + padding (length x))) (least limit (length t)) (omega arith)

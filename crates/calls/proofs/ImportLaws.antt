@@ -21,7 +21,7 @@ use Rattle.merge.specs.declared.node.Node.{Node}
 use Rattle.calls.specs.Refusal.{afterTests, passed}
 use Rattle.calls.specs.Lengths.{stateFits, lengthsTest}
 use Rattle.calls.specs.Parents.{loadTests}
-use Rattle.merge.specs.Invariant as invariant
+use Rattle.merge.specs.Root as root
 use Rattle.calls.specs.Import.{brokenLayer, importTests, blank, wiped, rootNode, rooted, rootTests, importSpec}
 use Rattle.calls.specs.declared.refusal.Refusal.{Refusal}
 use Rattle.calls.specs.declared.refusal.Answer.{Answer}
@@ -77,7 +77,7 @@ unfolding rooted
 root-put u l s s₁ s₂ s₃ h n a b c d e = e ∙ rw (d, c, b, a) refl
 
 pub root-made : (u l : List ℕ) (st : Stack) → st ≡ stackFrom (rootStack u l) false → record { number = 1; parent = 0; count = 2; white = 0; loaded = 0; depth = st .length; length = 0; stack = st .pairs; name = replicate 28 0 } ≡ rootNode u l
-unfolding invariant.rootNode
+unfolding root.rootNode
 root-made u l st e = rw e refl
 
 -- ---- the import

@@ -1,13 +1,14 @@
 -- The entries of a listing, as the code finds them in the nodes. Assumes nothing.
 use mathlib.Core.Path.{_≡_, refl, sym, ap, ap₂, _∙_}
-use Prim.Native.Nat.{ℕ, zero, suc, _+_, _-_, _≤_, _<_}
+use Prim.Native.Nat.{ℕ, suc, _+_, _-_, _≤_, _<_}
 use native.Mathlib.Omega.{arith}
 use mathlib.Core.Bool.{Bool, true, false, cond}
-use mathlib.Core.List.{List, [], _∷_, map}
+use mathlib.Core.List.{List, [], _∷_}
 use lib.ListN.{length, drop, getD, length-drop}
 use lib.Seq.{drop-drop, getD-drop}
-use Rattle.layers.specs.Items.{pieces, recordOf, recordsOf, recordAt, freeRecord}
+use Rattle.layers.specs.Items.{recordsOf, recordAt}
 use Rattle.layers.specs.Search.{firstFrom}
+use Rattle.layers.specs.declared.items.Record.{Record}
 use Rattle.layers.specs.declared.search.Found.{Found}
 use Rattle.layers.specs.declared.search.Found.the-variants.{At, Missing}
 use Rattle.merge.specs.Nodes.{noNode, nodeAt, nodeName}
@@ -15,34 +16,21 @@ use Rattle.merge.specs.State.{those, childFrom, childrenOf, hasParent}
 use Rattle.merge.specs.Tables.{tableOf}
 use Rattle.merge.specs.declared.stacks.Pair.{Pair}
 use Rattle.merge.specs.declared.node.Node.{Node}
-use Rattle.merge.proofs.TableLaws.{table-none}
 use Rattle.merge.proofs.ListChanges.{those-missing}
 use Rattle.calls.specs.Parents.{isWhite, isLive}
 use Rattle.calls.specs.Listing.{typeOf, direntOf, childDirents}
+use Rattle.calls.proofs.RecordLaws.{record-none, record-there}
 
 -- ---- a record's type
-
-no-kind : (n i : ℕ) → getD (map recordOf (pieces 32 n [])) i freeRecord .kind ≡ 0
-unfolding pieces recordOf
-no-kind zero i = refl
-no-kind (suc n) zero = refl
-no-kind (suc n) (suc i) = no-kind n i
-
-no-record-kind : (i : ℕ) → recordAt (recordsOf []) i .kind ≡ 0
-unfolding recordsOf
-no-record-kind zero = refl
-no-record-kind (suc i) = no-kind 128 i
 
 module _ (u l t : List ℕ) (p : Pair) (w : ℕ) (e : t ≡ tableOf u l w) (q : w ≡ p .layer) where
   pub no-type : (length t ≡ 8192 → ⊥) → 0 ≡ typeOf u l p
   unfolding typeOf
-  no-type h =
-      let g : tableOf u l (p .layer) ≡ [] = table-none u l (p .layer) (λ z. h (ap length (e ∙ ap (tableOf u l) q) ∙ z)) in
-      sym (ap (λ (y : List ℕ). recordAt (recordsOf y) (p .number) .kind) g ∙ no-record-kind (p .number))
+  no-type h = sym (ap (λ (r : Record). r .kind) (record-none u l t p w e q h))
 
   pub type-there : (v r : ℕ) → v ≡ p .number → r ≡ recordAt (recordsOf t) v .kind → r ≡ typeOf u l p
   unfolding typeOf
-  type-there v r k h = h ∙ (ap (λ (y : List ℕ). recordAt (recordsOf y) v .kind) (e ∙ ap (tableOf u l) q) ∙ ap (λ (i : ℕ). recordAt (recordsOf (tableOf u l (p .layer))) i .kind) k)
+  type-there v r k h = h ∙ ap (λ (x : Record). x .kind) (record-there u l t p w e q v (recordAt (recordsOf t) v) k refl)
 
 -- ---- the children one after another
 

@@ -10,15 +10,14 @@ use lib.Dec.{leb, ltb}
 use lib.Seq.{drop-nil}
 use lib.ListN.{length, take, drop, length-append, length-drop, length-replicate, take-append-drop}
 use borrow.Author.Tests.{le-leb, lt-leb, lt-ltb, le-ltb, leb-true, leb-false, ltb-true, ltb-false}
-use Rattle.layers.specs.Bytes.{over}
+use Rattle.layers.specs.Bytes.{least, over}
 use Rattle.layers.proofs.Numbers.{length-le}
 use Rattle.layers.proofs.Runs.{over-next, length-over}
-use Rattle.merge.specs.Nodes.{least}
+use Rattle.layers.proofs.Least.{least-right}
 use Rattle.calls.specs.Dirents.{Dirent, direntSize, direntBytes, roomOf, fits, putAnswer, putDirent}
 use Rattle.calls.specs.Pages.{fitting, bytesFrom, pageBytes, remaining, pageOf, pageOver, entryAnswer, entryOver, Filled, filled, fill}
 use Rattle.calls.specs.declared.dirent.Put.{Put}
 use Rattle.calls.specs.declared.dirent.Put.the-variants.{Next, Full}
-use Rattle.calls.proofs.DirentLaws.{least-below}
 
 pub length-dirent : (i : ℕ) (d : Dirent) → length (direntBytes i d) ≡ direntSize d
 unfolding direntBytes direntSize
@@ -113,7 +112,7 @@ module _ (o limit : ℕ) where
           ≡ from i at t (d ∷ ds) (cond (leb (direntSize d) (least limit (length t) - at)) (suc (fitting (least limit (length t) - at - direntSize d) ds)) 0)
       go true e ih =
           let w : at + direntSize d ≤ least limit (length t) = leb-true (at + direntSize d) (least limit (length t)) e in
-          let z : least limit (length t) ≤ length t = least-below limit (length t) in
+          let z : least limit (length t) ≤ length t = least-right limit (length t) in
           let m : length (direntBytes i d) ≡ direntSize d = length-dirent i d in
           let g : length (over t at (direntBytes i d)) ≡ length t = length-over t at (direntBytes i d) (omega arith) in
           let k : least limit (length t) - (at + direntSize d) ≡ least limit (length t) - at - direntSize d = omega arith in

@@ -1,5 +1,5 @@
 -- The parent search and the load, from what the code's tests showed. Assumes nothing.
-use mathlib.Core.Path.{_≡_, refl, _∙_}
+use mathlib.Core.Path.{_≡_, refl, sym, _∙_}
 use Prim.Native.Nat.{ℕ}
 use mathlib.Core.Bool.{Bool, true, false}
 use mathlib.Core.List.{List}
@@ -7,7 +7,7 @@ use lib.ListN.{getD}
 use borrow.Author.Tests.{eq-eqb, ne-eqb}
 use Rattle.layers.specs.declared.search.Found.{Found}
 use Rattle.layers.specs.declared.search.Found.the-variants.{At, Missing}
-use Rattle.merge.specs.Nodes.{noPair, nodesOf, nodeAt}
+use Rattle.merge.specs.Nodes.{noPair, nodesOf, nodeAt, countOf}
 use Rattle.merge.specs.State.{findNumber, isFound}
 use Rattle.merge.specs.Tables.{tableOf}
 use Rattle.merge.specs.Scan.{isWalked}
@@ -15,8 +15,9 @@ use Rattle.merge.specs.Load.{loadAnswer}
 use Rattle.merge.specs.declared.node.Node.{Node}
 use Rattle.merge.specs.declared.load.Loading.{Loading}
 use Rattle.merge.specs.declared.load.Loading.the-variants.{Done, NoRoom}
+use Rattle.merge.proofs.StateLaws.{length-nodes}
 use Rattle.calls.specs.Refusal.{afterTests}
-use Rattle.calls.specs.Parents.{placeOf, placeNumbered, isWhite, isDirectoryNode, parentTests, loadTests}
+use Rattle.calls.specs.Parents.{placeOf, placeNumbered, numbered, isWhite, isDirectoryNode, parentTests, loadTests}
 use Rattle.calls.specs.declared.refusal.Refusal.the-variants.{Enoent, Enotdir, Enfile}
 use Rattle.calls.specs.declared.refusal.Answer.the-variants.{Fine, Refused}
 
@@ -58,3 +59,17 @@ module _ (u l s : List ℕ) (k : ℕ) (a : Loading) (q : a ≡ loadAnswer u l s 
   pub load-refused : a ≡ NoRoom → Refused Enfile ≡ afterTests (loadTests u l s k) (Fine k)
   unfolding loadTests afterTests
   load-refused h = rw (← q, h) refl
+
+-- ---- by number, where a node that is not there is no node
+module _ (s : List ℕ) (x : ℕ) where
+  module _ (f : Found) (q : f ≡ findNumber (nodesOf s) x) where
+    pub place-behind : (c : ℕ) → f ≡ Missing → c ≡ countOf s → c ≡ placeNumbered s x
+    unfolding placeOf
+    place-behind c h e = (e ∙ sym (length-nodes s)) ∙ rw (← q, h) refl
+
+    pub place-there : (k : ℕ) → f ≡ At k → k ≡ placeNumbered s x
+    unfolding placeOf
+    place-there k h = rw (← q, h) refl
+
+  pub node-placed : (k : ℕ) (n : Node) → k ≡ placeNumbered s x → n ≡ nodeAt (nodesOf s) k → n ≡ numbered s x
+  node-placed k n e h = h ∙ rw e refl

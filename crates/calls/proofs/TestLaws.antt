@@ -9,7 +9,7 @@ use Rattle.calls.specs.declared.refusal.Refusal.{Refusal}
 use Rattle.calls.specs.declared.refusal.Answer.{Answer}
 use Rattle.calls.specs.declared.refusal.Answer.the-variants.{Fine, Refused}
 
-false-true : false ≡ true → ⊥
+pub false-true : false ≡ true → ⊥
 false-true e = let z : _≡_ {A = ℕ} 0 1 = cc in omega arith
 
 refused-fine : (r : Refusal) (k : ℕ) → Refused r ≡ Fine k → ⊥

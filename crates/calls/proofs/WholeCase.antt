@@ -1,11 +1,9 @@
--- The whole case of a listing page, and the sizes of entries. Assumes nothing.
+-- The whole case of a listing page. Assumes nothing.
 use mathlib.Core.Path.{_≡_, refl}
 use Prim.Native.Nat.{ℕ}
 use mathlib.Core.Bool.{true, false}
 use mathlib.Core.List.{List, [], _∷_, _++_}
-use lib.ListN.{length}
 use Rattle.layers.specs.Bytes.{leBytes}
-use Rattle.layers.specs.Names.{Name}
 use Rattle.layers.specs.Search.{firstFrom}
 use Rattle.merge.specs.Nodes.{nodesOf, nodeName}
 use Rattle.merge.specs.State.{isNumber, hasParent, those}
@@ -16,12 +14,6 @@ use Rattle.calls.specs.Pages.{fitting, bytesFrom, pageBytes, remaining, 
 use Rattle.calls.specs.Parents.{placeOf, numbered, isWhite, topOf, isLive}
 use Rattle.calls.specs.Listing.{typeOf, direntOf, above, childDirents, listingOf}
 use Rattle.calls.specs.declared.page.Page.{Page}
-
--- "M11 names of 8, 9, 28 bytes: entries of 32, 40, 56."
-pub sizes-eight-nine-twenty-eight : (i k : ℕ) (x y z : Name) → length x ≡ 8 → length y ≡ 9 → length z ≡ 28
-    → (direntSize (dirent i k x) ≡ 32) × (direntSize (dirent i k y) ≡ 40) × (direntSize (dirent i k z) ≡ 56)
-unfolding direntSize padding
-sizes-eight-nine-twenty-eight i k x y z p q r = (rw p refl, rw q refl, rw r refl)
 
 -- "Three entries of 32 bytes, as inode, offset, length, type, name: 1, 1, 1, 4, "."; 1, 2, 2, 4, ".."; 2, 3, 1, 8, "k"."
 abbrev pub caseEntries : List Dirent

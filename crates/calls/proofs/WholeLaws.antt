@@ -1,20 +1,17 @@
 -- A directory's whole listing, as the code writes it: the fixed names, then the children. Assumes nothing.
-use mathlib.Core.Path.{_≡_, refl, sym, ap, _∙_}
+use mathlib.Core.Path.{_≡_, sym, ap, _∙_}
 use Prim.Native.Nat.{ℕ, _+_, _*_, _≤_}
 use native.Mathlib.Omega.{arith}
 use mathlib.Core.Bool.{Bool, true, cond}
 use mathlib.Core.List.{List, [], _∷_}
-use lib.ListN.{length, List·getD-eq-default}
+use lib.ListN.{length}
 use borrow.Author.Tests.{eq-eqb, ne-eqb}
-use Rattle.layers.specs.declared.search.Found.{Found}
-use Rattle.layers.specs.declared.search.Found.the-variants.{At, Missing}
-use Rattle.merge.specs.Nodes.{noNode, nodesOf, nodeAt, countOf}
-use Rattle.merge.specs.State.{findNumber}
+use Rattle.merge.specs.Nodes.{nodesOf, countOf}
 use Rattle.merge.specs.declared.node.Node.{Node}
 use Rattle.merge.proofs.HeadLaws.{count-most}
 use Rattle.calls.specs.Dirents.{Dirent, roomOf}
 use Rattle.calls.specs.Pages.{pageBytes, pageOf, pageOver, Paged, entryAnswer, entryOver, Filled, filled, fill}
-use Rattle.calls.specs.Parents.{placeOf, numbered}
+use Rattle.calls.specs.Parents.{numbered}
 use Rattle.calls.specs.Listing.{direntOf, above, childDirents, listingOf}
 use Rattle.calls.specs.declared.dirent.Put.{Put}
 use Rattle.calls.specs.declared.dirent.Put.the-variants.{Next, Full}
@@ -23,15 +20,6 @@ use Rattle.calls.proofs.PageLaws.{fill-next, fill-full, fill-page}
 use Rattle.calls.proofs.PageBounds.{listing-bytes}
 
 -- ---- the nodes of the fixed names
-
-module _ (s : List ℕ) (x : ℕ) (n : Node) (f : Found) (q : f ≡ findNumber (nodesOf s) x) where
-  pub node-missing : f ≡ Missing → n ≡ noNode → n ≡ numbered s x
-  unfolding placeOf
-  node-missing h e = e ∙ sym (rw (← q, h) (List·getD-eq-default (nodesOf s) noNode {n = length (nodesOf s)} (omega arith)))
-
-  pub node-there : (k : ℕ) → f ≡ At k → n ≡ nodeAt (nodesOf s) k → n ≡ numbered s x
-  unfolding placeOf
-  node-there k h e = e ∙ sym (rw (← q, h) refl)
 
 module _ (s : List ℕ) (x : ℕ) (n : Node) where
   pub above-root : x ≡ 1 → n ≡ numbered s 1 → n ≡ numbered s (above s x)

@@ -4,9 +4,8 @@ use Prim.Native.Nat.{ℕ, _+_, _-_, _%_}
 use mathlib.Core.List.{List, _++_}
 use lib.Dec.{leb}
 use lib.ListN.{length, replicate}
-use Rattle.layers.specs.Bytes.{over, leBytes}
+use Rattle.layers.specs.Bytes.{least, over, leBytes}
 use Rattle.layers.specs.Names.{Name}
-use Rattle.merge.specs.Nodes.{least}
 use Rattle.calls.specs.declared.dirent.Put.{Put}
 use Rattle.calls.specs.declared.dirent.Put.the-variants.{Next, Full}
 

@@ -8,7 +8,7 @@ use Rattle.layers.specs.Rules.{validTest}
 use Rattle.merge.specs.Tables.{tableOf}
 use Rattle.merge.specs.Stacks.{stackFrom}
 use Rattle.merge.specs.Fresh.{rootStack}
-use Rattle.merge.specs.Invariant as invariant
+use Rattle.merge.specs.Root as root
 use Rattle.merge.specs.Heads.{withHead}
 use Rattle.merge.specs.Changes.{putInBytes}
 use Rattle.merge.specs.Load.{loadBytes}
@@ -48,7 +48,7 @@ wiped s = cond (stateFits s) blank s
 
 -- "The root's stack holds every layer's root (`import`)"
 abbrev pub rootNode : List ℕ → List ℕ → Node
-rootNode u l = invariant.rootNode (stackFrom (rootStack u l) false)
+rootNode u l = root.rootNode (stackFrom (rootStack u l) false)
 
 -- the root alone in these bytes; "Other numbers rise from 2"
 unfoldable pub rooted : List ℕ → List ℕ → List ℕ → List ℕ

@@ -10,3 +10,10 @@ pub mod Count
 pub mod Import
 pub mod Forget
 pub mod NodeCall
+pub mod Upper
+pub mod Room
+pub mod Writing
+pub mod Creation
+pub mod CopyUp
+pub mod Link
+pub mod Marked

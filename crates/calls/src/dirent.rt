@@ -3,8 +3,7 @@ ghost use mathlib.Core.Path.{_≡_};
 ghost use mathlib.Core.List.{_++_};
 ghost use Prim.Native.Nat.{_+_, _%_, _≤_, _<_};
 ghost use lib.ListN.{length, replicate};
-ghost use Rattle.layers.specs.Bytes.{over, leBytes};
-ghost use Rattle.merge.specs.Nodes.{least};
+ghost use Rattle.layers.specs.Bytes.{least, over, leBytes};
 ghost use Rattle.calls.specs.Dirents.{dirent, padding, direntBytes, putAnswer, putDirent};
 
 // What became of an entry: where the next one goes, or that it did not fit.

@@ -5,9 +5,9 @@ ghost use Rattle.merge.specs.Nodes.{nodesOf};
 ghost use Rattle.calls.specs.Parents.{numbered};
 ghost use Rattle.calls.specs.Pages.{entryAnswer, entryOver, fill, Filled, Paged};
 ghost use Rattle.calls.specs.Listing.{typeOf, direntOf, above, childDirents, listingOf};
-use crate::dirent;
 use crate::dirent::Put;
 use crate::parent;
+use crate::writer;
 use layers::search::Found;
 use merge::node;
 use merge::node::Node;
@@ -54,7 +54,7 @@ fn put_entry<'a>(
     let a = n.stack;
     let p = a[0];
     let k = type_of(upper, lower, p);
-    dirent::put_dirent(buf, at, limit, p.number as u64, index, k, name)
+    writer::append_dirent(buf, at, limit, p.number as u64, index, k, name)
 }
 
 // The entry of a child, `x` being the bytes that hold its name.
@@ -103,10 +103,9 @@ fn put_children<'a>(
                 remains: false,
             };
         };
+        k = j + 1;
         let n = state::node_at(s, j);
-        if parent::is_white(n) {
-            k = j + 1;
-        } else {
+        if !parent::is_white(n) {
             let name = n.name;
             let p = put_child(buf, at, limit, offset, i, upper, lower, n, name);
             let Put::Next(next) = p else {
@@ -117,20 +116,8 @@ fn put_children<'a>(
             };
             at = next;
             i += 1;
-            k = j + 1;
         }
     }
-}
-
-// The node of number `x`; where there is none, no node.
-fn node_of(s: &[u8], x: u64) -> Node
-    ensures { λ r. ⌜ r ≡ numbered (now (s .entry)) x ⌝ }
-{
-    let f = state::find(s, x);
-    let Found::At(k) = f else {
-        return node::no_node();
-    };
-    state::node_at(s, k)
 }
 
 // The node that ".." names.
@@ -138,10 +125,10 @@ fn node_above(s: &[u8], x: u64) -> Node
     ensures { λ r. ⌜ r ≡ numbered (now (s .entry)) (above (now (s .entry)) x) ⌝ }
 {
     if x == 1 {
-        return node_of(s, 1);
+        return parent::node_numbered(s, 1);
     }
-    let n = node_of(s, x);
-    node_of(s, node::wide(n.parent))
+    let n = parent::node_numbered(s, x);
+    parent::node_numbered(s, node::wide(n.parent))
 }
 
 fn put_listing<'a>(
@@ -155,7 +142,7 @@ fn put_listing<'a>(
 ) -> Page
     ensures { λ r. ⌜ _≡_ {A = Filled} (record { page = r; buffer = now (buf .exit) }) (fill offset limit 0 0 (now (buf .entry)) (listingOf (now (upper .entry)) (now (lower .entry)) (now (s .entry)) x)) ⌝ }
 {
-    let n = node_of(s, x);
+    let n = parent::node_numbered(s, x);
     let f = put_entry(buf, 0, limit, offset, 0, upper, lower, n, b".");
     let Put::Next(a) = f else {
         return Page {

@@ -1,12 +1,13 @@
 // The node that a call names by its number, and whether it is a live directory.
 ghost use mathlib.Core.Path.{_≡_};
 ghost use Rattle.calls.specs.Refusal.{afterTests};
-ghost use Rattle.calls.specs.Parents.{isWhite, isDirectoryNode, parentTests, placeNumbered, loadTests};
+ghost use Rattle.calls.specs.Parents.{isWhite, isDirectoryNode, parentTests, placeNumbered, numbered, loadTests};
 ghost use Rattle.calls.specs.declared.refusal.Answer.the-variants.{Fine};
 ghost use Rattle.merge.specs.Load.{loadBytes};
 use crate::refusal::Answer;
 use crate::refusal::Refusal;
 use layers::search::Found;
+use merge::head;
 use merge::load;
 use merge::load::Loading;
 use merge::node::Node;
@@ -60,4 +61,24 @@ pub fn load_at<'a>(s: &mut [u8], upper: &'a [u8], lower: &'a [u8], k: usize) -> 
         Loading::Done => Answer::Fine(k),
         Loading::NoRoom => Answer::Refused(Refusal::Enfile),
     }
+}
+
+// ---- by number, where a node that is not there is no node
+
+// The place of the node of number `x`; where there is none, the place behind the last.
+pub(crate) fn place_numbered(s: &[u8], x: u64) -> usize
+    ensures { λ r. ⌜ r ≡ placeNumbered (now (s .entry)) x ⌝ }
+{
+    let f = state::find(s, x);
+    let Found::At(k) = f else {
+        return head::count(s);
+    };
+    k
+}
+
+// The node of number `x`; where there is none, no node.
+pub(crate) fn node_numbered(s: &[u8], x: u64) -> Node
+    ensures { λ r. ⌜ r ≡ numbered (now (s .entry)) x ⌝ }
+{
+    state::node_at(s, place_numbered(s, x))
 }

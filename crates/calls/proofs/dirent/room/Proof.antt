@@ -1,4 +1,4 @@
-use Rattle.calls.proofs.DirentLaws.{least-first, least-second}
+use Rattle.layers.proofs.Least.{least-first, least-second}
 use borrow.Author.Needs.{needs}
 use Rattle.calls.proofs.dirent.room.Statement.{statement}
 use Rattle.calls.proofs.dirent.room.Tie as tie

@@ -1,6 +1,5 @@
 use lib.ListN.{length, drop}
-use native.Mathlib.Omega.{arith}
-use Rattle.calls.proofs.ChildLaws.{Stands, child-stands, children-walk}
+use Rattle.calls.proofs.ChildLaws.{next-child, children-walk}
 use Rattle.calls.specs.Listing.{childDirents}
 use Rattle.calls.specs.Pages.{fill}
 use Rattle.merge.specs.Nodes.{nodesOf, countOf}
@@ -34,20 +33,14 @@ same-length c = search needs
 returns : tie.Need-returns Inv-loop μ-loop
 returns c = search (children-walk, needs)
 
+add-k : tie.Need-add-k Inv-loop μ-loop
+add-k c = search (next-child, needs)
+
 node-at-requires : tie.Need-node-at-requires Inv-loop μ-loop
 node-at-requires c κs = search needs
 
 is-white-requires : tie.Need-is-white-requires Inv-loop μ-loop
 is-white-requires c κs = search needs
-
-add-k : tie.Need-add-k Inv-loop μ-loop
-add-k c = let b : Stands (c .before .before .before .before .before .before .before .before .before .before .before .before .args .s .now) (c .before .before .before .before .before .before .before .loop .k) (c .before .before .before .before .f .given .0 .0) = search (child-stands, needs) in omega arith
-
-loop-less : tie.Need-loop-less Inv-loop μ-loop
-loop-less c = let b : Stands (c .before .before .before .before .before .before .before .before .before .before .before .before .args .s .now) (c .before .before .before .before .before .before .before .loop .k) (c .before .before .before .before .f .given .0 .0) = search (child-stands, needs) in omega arith
-
-loop-again : tie.Need-loop-again Inv-loop μ-loop
-loop-again c = (let b : Stands (c .before .before .before .before .before .before .before .before .before .before .before .before .args .s .now) (c .before .before .before .before .before .before .before .loop .k) (c .before .before .before .before .f .given .0 .0) = search (child-stands, needs) in omega arith, let b : Stands (c .before .before .before .before .before .before .before .before .before .before .before .before .args .s .now) (c .before .before .before .before .before .before .before .loop .k) (c .before .before .before .before .f .given .0 .0) = search (child-stands, needs) in omega arith, search needs, search (children-walk, needs))
 
 put-child-requires : tie.Need-put-child-requires Inv-loop μ-loop
 put-child-requires c κs = search needs
@@ -65,16 +58,19 @@ returns-2 : tie.Need-returns-2 Inv-loop μ-loop
 returns-2 c = search (children-walk, needs)
 
 add-i : tie.Need-add-i Inv-loop μ-loop
-add-i c = let b : Stands (c .before .before .before .before .before .before .before .before .before .before .before .before .before .before .before .before .before .before .before .before .args .s .now) (c .before .before .before .before .before .before .before .before .before .before .before .before .before .before .before .loop .k) (c .before .before .before .before .before .before .before .before .before .before .before .before .f .given .0 .0) = search (child-stands, needs) in omega arith
+add-i c = search (next-child, needs)
 
-add-k-2 : tie.Need-add-k-2 Inv-loop μ-loop
-add-k-2 c = let b : Stands (c .before .before .before .before .before .before .before .before .before .before .before .before .before .before .before .before .before .before .before .before .args .s .now) (c .before .before .before .before .before .before .before .before .before .before .before .before .before .before .before .loop .k) (c .before .before .before .before .before .before .before .before .before .before .before .before .f .given .0 .0) = search (child-stands, needs) in omega arith
+loop-less : tie.Need-loop-less Inv-loop μ-loop
+loop-less c = search (next-child, needs)
+
+loop-again : tie.Need-loop-again Inv-loop μ-loop
+loop-again c = (search (next-child, needs), search (next-child, needs), search needs, search (children-walk, needs))
 
 loop-less-2 : tie.Need-loop-less-2 Inv-loop μ-loop
-loop-less-2 c = let b : Stands (c .before .before .before .before .before .before .before .before .before .before .before .before .before .before .before .before .before .before .before .before .args .s .now) (c .before .before .before .before .before .before .before .before .before .before .before .before .before .before .before .loop .k) (c .before .before .before .before .before .before .before .before .before .before .before .before .f .given .0 .0) = search (child-stands, needs) in omega arith
+loop-less-2 c = search (next-child, needs)
 
 loop-again-2 : tie.Need-loop-again-2 Inv-loop μ-loop
-loop-again-2 c = (let b : Stands (c .before .before .before .before .before .before .before .before .before .before .before .before .before .before .before .before .before .before .before .before .args .s .now) (c .before .before .before .before .before .before .before .before .before .before .before .before .before .before .before .loop .k) (c .before .before .before .before .before .before .before .before .before .before .before .before .f .given .0 .0) = search (child-stands, needs) in omega arith, let b : Stands (c .before .before .before .before .before .before .before .before .before .before .before .before .before .before .before .before .before .before .before .before .args .s .now) (c .before .before .before .before .before .before .before .before .before .before .before .before .before .before .before .loop .k) (c .before .before .before .before .before .before .before .before .before .before .before .before .f .given .0 .0) = search (child-stands, needs) in omega arith, search needs, search (children-walk, needs))
+loop-again-2 c = (search (next-child, needs), search (next-child, needs), search needs, search (children-walk, needs))
 
 pub put-children-spec : {M : Type 1} → statement M
 put-children-spec =
@@ -88,17 +84,16 @@ put-children-spec =
     enum-told
     same-length
     returns
+    add-k
     node-at-requires
     is-white-requires
-    add-k
-    loop-less
-    loop-again
     put-child-requires
     enum-known-p
     enum-told-2
     same-length-2
     returns-2
     add-i
-    add-k-2
+    loop-less
+    loop-again
     loop-less-2
     loop-again-2)

@@ -13,11 +13,11 @@ array-copy-out-p c = search needs
 type-of-requires : tie.Need-type-of-requires
 type-of-requires c κs = search needs
 
-cast-put-dirent : tie.Need-cast-put-dirent
-cast-put-dirent c = search needs
+cast-append-dirent : tie.Need-cast-append-dirent
+cast-append-dirent c = search needs
 
-put-dirent-requires : tie.Need-put-dirent-requires
-put-dirent-requires c κs = search needs
+append-dirent-requires : tie.Need-append-dirent-requires
+append-dirent-requires c κs = search needs
 
 same-length : tie.Need-same-length
 same-length c = search needs
@@ -32,7 +32,7 @@ put-entry-spec =
     returns
     array-copy-out-p
     type-of-requires
-    cast-put-dirent
-    put-dirent-requires
+    cast-append-dirent
+    append-dirent-requires
     same-length
     returns-2)

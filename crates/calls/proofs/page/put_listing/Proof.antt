@@ -3,8 +3,8 @@ use borrow.Author.Needs.{needs}
 use Rattle.calls.proofs.page.put_listing.Statement.{statement}
 use Rattle.calls.proofs.page.put_listing.Tie as tie
 
-node-of-requires : tie.Need-node-of-requires
-node-of-requires c κs = search needs
+node-numbered-requires : tie.Need-node-numbered-requires
+node-numbered-requires c κs = search needs
 
 slice-aggregate-put-entry : tie.Need-slice-aggregate-put-entry
 slice-aggregate-put-entry c = search needs
@@ -52,13 +52,13 @@ same-length-3 : tie.Need-same-length-3
 same-length-3 c = search needs
 
 returns-3 : tie.Need-returns-3
-returns-3 c = then-children _ _ _ _ _ _ _ _ (c .before .before .before .before .before .before .before .before .before .before .before .before .before .before .before .before .before .before .before .before .before .node-of .ensures) _ _ (c .before .before .before .before .before .before .before .before .before .before .before .before .before .before .before .before .before .before .put-entry .ensures .0) (c .before .before .before .before .before .before .before .before .before .before .before .before .before .before .before .before .before .before .put-entry .ensures .1) _ (c .before .before .before .before .before .before .before .before .before .before .before .before .before .before .f .given .1) _ (c .before .before .before .before .before .before .before .before .before .before .before .before .node-above .ensures) _ _ (c .before .before .before .before .before .before .before .before .before .put-entry2 .ensures .0) (c .before .before .before .before .before .before .before .before .before .put-entry2 .ensures .1) _ (c .before .before .before .before .before .g .given .1) _ _ (c .before .before .put-children .ensures)
+returns-3 c = then-children _ _ _ _ _ _ _ _ (c .before .before .before .before .before .before .before .before .before .before .before .before .before .before .before .before .before .before .before .before .before .node-numbered .ensures) _ _ (c .before .before .before .before .before .before .before .before .before .before .before .before .before .before .before .before .before .before .put-entry .ensures .0) (c .before .before .before .before .before .before .before .before .before .before .before .before .before .before .before .before .before .before .put-entry .ensures .1) _ (c .before .before .before .before .before .before .before .before .before .before .before .before .before .before .f .given .1) _ (c .before .before .before .before .before .before .before .before .before .before .before .before .node-above .ensures) _ _ (c .before .before .before .before .before .before .before .before .before .put-entry2 .ensures .0) (c .before .before .before .before .before .before .before .before .before .put-entry2 .ensures .1) _ (c .before .before .before .before .before .g .given .1) _ _ (c .before .before .put-children .ensures)
 
 pub put-listing-spec : {M : Type 1} → statement M
 put-listing-spec =
     tie.close
     (tie.spec
-    node-of-requires
+    node-numbered-requires
     slice-aggregate-put-entry
     put-entry-requires
     enum-known-f

@@ -1,0 +1,37 @@
+use Rattle.calls.proofs.CreationLaws.{in-answered, in-left, in-wrote}
+use borrow.Author.Needs.{needs}
+use Rattle.calls.proofs.creation.create_in.Statement.{statement}
+use Rattle.calls.proofs.creation.create_in.Tie as tie
+
+place-numbered-requires : tie.Need-place-numbered-requires
+place-numbered-requires c κs = search needs
+
+child-requires : tie.Need-child-requires
+child-requires c κs = search needs
+
+whiteout-entry-requires : tie.Need-whiteout-entry-requires
+whiteout-entry-requires c κs = search needs
+
+create-at-requires : tie.Need-create-at-requires
+create-at-requires c κs = search needs
+
+same-length : tie.Need-same-length
+same-length c = search needs
+
+same-length-2 : tie.Need-same-length-2
+same-length-2 c = search needs
+
+returns : tie.Need-returns
+returns c = (search (in-answered, needs), search (in-left, needs), search (in-wrote, needs))
+
+pub create-in-spec : {M : Type 1} → statement M
+create-in-spec =
+    tie.close
+    (tie.spec
+    place-numbered-requires
+    child-requires
+    whiteout-entry-requires
+    create-at-requires
+    same-length
+    same-length-2
+    returns)
