@@ -1,0 +1,19 @@
+-- The laws behind the demands: what every call keeps.
+pub mod AgreeLaws
+pub mod NameChanges
+pub mod TopLaws
+pub mod UpperLaws
+pub mod OneOrder
+pub mod InvariantMoves
+pub mod InvariantNodes
+pub mod InvariantKept
+pub mod ShortNames
+pub mod InvariantLoad
+pub mod InvariantNames
+pub mod InvariantRoot
+pub mod InvariantChange
+pub mod InvariantShare
+pub mod InvariantUpper
+pub mod InvariantFresh
+pub mod StateDetermined
+pub mod RootLaws
