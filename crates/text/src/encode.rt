@@ -12,7 +12,7 @@ pub enum Put {
 }
 
 // The kind that a word names: its name, or its dirent type number.
-fn kind_named(w: &[u8]) -> u8 {
+pub fn kind_named(w: &[u8]) -> u8 {
     if words::is_word(w, b"fifo") {
         return 1;
     }

@@ -154,3 +154,8 @@ pub fn small(w: &[u8]) -> u16 {
 pub fn place(w: &[u8]) -> usize {
     number(w) as usize
 }
+
+// The number that the word `k` of a line writes.
+pub fn number_at(s: &[u8], k: usize) -> u64 {
+    number(word(s, k))
+}

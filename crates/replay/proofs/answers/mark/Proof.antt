@@ -2,8 +2,8 @@ use mathlib.Core.Path.{_≡_}
 use lib.ListN.{length, length-set}
 use Prim.Native.Nat.{_≤_, _-_}
 use borrow.Author.Needs.{needs}
-use Rattle.replay.proofs.mark.Statement.{statement}
-use Rattle.replay.proofs.mark.Tie as tie
+use Rattle.replay.proofs.answers.mark.Statement.{statement}
+use Rattle.replay.proofs.answers.mark.Tie as tie
 
 abbrev Inv-loop : tie.InvT-loop
 Inv-loop t₀ i₀ t i = (i ≤ length t) × (length t ≡ length t₀)

@@ -1,27 +1,28 @@
-use mathlib.Core.Path.{_≡_}
-use lib.ListN.{length, length-set}
 use Prim.Native.Nat.{_≤_, _-_}
 use borrow.Author.Needs.{needs}
-use Rattle.replay.proofs.is_untouched.Statement.{statement}
-use Rattle.replay.proofs.is_untouched.Tie as tie
+use Rattle.replay.proofs.is_among.Statement.{statement}
+use Rattle.replay.proofs.is_among.Tie as tie
 
 abbrev Inv-loop : tie.InvT-loop
-Inv-loop t a i₀ i = i ≡ i
+Inv-loop w line k₀ k = k ≤ 12
 
 abbrev μ-loop : tie.MeasureT-loop
-μ-loop t a i₀ i = length t - i
+μ-loop w line k₀ k = 12 - k
 
 loop-holds : tie.Need-loop-holds Inv-loop μ-loop
 loop-holds c = search needs
 
-shared-slice-read-if1 : tie.Need-shared-slice-read-if1 Inv-loop μ-loop
-shared-slice-read-if1 c = search needs
+word-requires : tie.Need-word-requires Inv-loop μ-loop
+word-requires c κs = search needs
+
+is-word-requires : tie.Need-is-word-requires Inv-loop μ-loop
+is-word-requires c κs = search needs
 
 returns : tie.Need-returns Inv-loop μ-loop
 returns c = search needs
 
-add-i : tie.Need-add-i Inv-loop μ-loop
-add-i c = search needs
+add-k : tie.Need-add-k Inv-loop μ-loop
+add-k c = search needs
 
 loop-less : tie.Need-loop-less Inv-loop μ-loop
 loop-less c = search needs
@@ -32,16 +33,17 @@ loop-again c = search needs
 returns-2 : tie.Need-returns-2 Inv-loop μ-loop
 returns-2 c = search needs
 
-pub is-untouched-spec : {M : Type 1} → statement M
-is-untouched-spec =
+pub is-among-spec : {M : Type 1} → statement M
+is-among-spec =
     tie.close
     (tie.spec
     Inv-loop
     μ-loop
     loop-holds
-    shared-slice-read-if1
+    word-requires
+    is-word-requires
     returns
-    add-i
+    add-k
     loop-less
     loop-again
     returns-2)

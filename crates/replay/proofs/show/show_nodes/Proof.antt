@@ -1,8 +1,8 @@
 use mathlib.Core.Path.{_≡_}
 use Prim.Native.Nat.{_≤_, _-_}
 use borrow.Author.Needs.{needs}
-use Rattle.replay.proofs.show_nodes.Statement.{statement}
-use Rattle.replay.proofs.show_nodes.Tie as tie
+use Rattle.replay.proofs.show.show_nodes.Statement.{statement}
+use Rattle.replay.proofs.show.show_nodes.Tie as tie
 
 abbrev Inv-loop : tie.InvT-loop
 Inv-loop s c j₀ j = j ≡ j

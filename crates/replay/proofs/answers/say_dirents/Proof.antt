@@ -2,8 +2,8 @@ use mathlib.Core.Path.{_≡_}
 use lib.ListN.{length, length-set}
 use Prim.Native.Nat.{_≤_, _-_}
 use borrow.Author.Needs.{needs}
-use Rattle.replay.proofs.say_dirents.Statement.{statement}
-use Rattle.replay.proofs.say_dirents.Tie as tie
+use Rattle.replay.proofs.answers.say_dirents.Statement.{statement}
+use Rattle.replay.proofs.answers.say_dirents.Tie as tie
 
 abbrev Inv-loop : tie.InvT-loop
 Inv-loop t a₀ a = a ≡ a
