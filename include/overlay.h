@@ -1,8 +1,12 @@
 /* Skeyndivar: an overlay join over layer tables in memory. The bytes of the tables and of the state are those of docs/ABI.md.
  *
  * Every function answers for any lengths and any bytes; none writes what it is not lent, and none keeps a pointer. The slices of one call
- * do not overlap; no alignment is asked; a slice of length 0 may come with a null pointer. Errno values are document 01's: 0 success,
- * 2 unknown, absent or whiteout, 20 no directory, 22 a malformed argument or bad layers, 23 node places or numbers don't suffice.
+ * do not overlap; no alignment is asked; a slice of length 0 may come with a null pointer.
+ *
+ * Errno values are document 01's: 0 success; 1 a link of a directory, or a whiteout to be made; 2 a node unknown or whiteout, or a name absent
+ * or whiteout; 17 a live name; 20 no directory; 22 a malformed name or argument, bad layers, or other lengths; 23 node places or numbers
+ * don't suffice; 28 the upper layer would hold over 128 records or entries; 30 no upper layer; 36 a new name of over 28 bytes. A refused
+ * call other than import changes nothing, except that a load done before it stays.
  */
 #ifndef OVERLAY_H
 #define OVERLAY_H
@@ -44,6 +48,42 @@ void overlay_forget(uint8_t *state, size_t state_len, uint64_t node, uint64_t am
 
 /* Copies a node's 52 bytes into `out`: 2 unknown, then 22 if `out` has under 52 bytes. */
 uint32_t overlay_node(const uint8_t *state, size_t state_len, uint64_t node, uint8_t *out, size_t out_len);
+
+/* ---- the calls that write the upper layer
+ *
+ * A creation (mknod, create, symlink) puts a record and its entry into the lowest free places of `upper`, makes the parent's missing upper
+ * directories before, from the root down (same permissions, not opaque), and deletes the upper whiteout of its name, if there is one: errno
+ * and the number of the name's node, which is new (its count 1) unless the name has one. Refused in this order: 22; 2 the parent unknown;
+ * 30; 2 the parent a whiteout; 20; 23 its names don't fit; 17; 1; 36; 23 the name has no node and none fits; 28, decided on what the upper
+ * layer would hold after the whole call. */
+
+/* A file, device, fifo or socket: `kind` is a dirent type number (fifo 1, character 2, block 6, regular 8, socket 12), the permissions are
+ * those without the umask's bits, and `device` counts for a device only. 22 also for any other kind, and for permissions or a umask over 4095;
+ * 1 for a character device with number 0, which would be a whiteout. */
+uint64_t overlay_mknod(uint8_t *state, size_t state_len, uint8_t *upper, size_t upper_len, const uint8_t *lower, size_t lower_len,
+                       uint64_t parent, const uint8_t *name, size_t name_len, uint32_t kind, uint32_t permissions, uint32_t umask,
+                       uint64_t device);
+
+/* A regular file, its permissions without the umask's bits; 22 also for permissions or a umask over 4095, never 1. */
+uint64_t overlay_create(uint8_t *state, size_t state_len, uint8_t *upper, size_t upper_len, const uint8_t *lower, size_t lower_len,
+                        uint64_t parent, const uint8_t *name, size_t name_len, uint32_t permissions, uint32_t umask);
+
+/* A symlink of permissions 511 whose target the content number stands for; never 1. */
+uint64_t overlay_symlink(uint8_t *state, size_t state_len, uint8_t *upper, size_t upper_len, const uint8_t *lower, size_t lower_len,
+                         uint64_t parent, const uint8_t *name, size_t name_len, uint64_t content);
+
+/* A further name for `source`, which is copied up before if it is not in the upper layer: errno and the number of the name's node. Deletes the
+ * name's upper whiteout, copies the source up, makes the parent's missing directories, then puts the entry. Refused in this order: 22; 2
+ * either unknown; 30; 2 either a whiteout; 1 the source a directory; 20; 23 the parent's names don't fit; 17; 36; 23; 28. */
+uint64_t overlay_link(uint8_t *state, size_t state_len, uint8_t *upper, size_t upper_len, const uint8_t *lower, size_t lower_len,
+                      uint64_t source, uint64_t parent, const uint8_t *name, size_t name_len);
+
+/* Puts a node's top record into the upper layer, and before it the missing directories of its path. A directory is made with the same
+ * permissions, not opaque, in front of its stack; anything else is copied whole (kind, permissions, device, size, content) and then stands
+ * alone. Refused with 22 (lengths), 2 unknown, 30, 2 a whiteout, in this order; then success without change if the top record is upper;
+ * then 28. */
+uint32_t overlay_copy_up(uint8_t *state, size_t state_len, uint8_t *upper, size_t upper_len, const uint8_t *lower, size_t lower_len,
+                         uint64_t node);
 
 /* ---- an answer in 64 bits, taken apart */
 
