@@ -6,16 +6,16 @@ use native.Mathlib.Nat.{zero-add}
 use native.Mathlib.Numerals.{add-one}
 use native.Mathlib.Decide.{ℕ-discrete}
 use mathlib.Core.Bool.{false, cond}
-use mathlib.Core.List.{List, []}
+use mathlib.Core.List.{List, [], _∷_}
 use lib.Dec.{eqb}
-use lib.ListN.{length, drop, getD, set, replicate, length-set, length-drop, length-replicate, drop-of-length-le}
-use lib.Seq.{drop-cons, getD-set-same, getD-set-other}
+use lib.ListN.{length, drop, getD, set, replicate, length-set, length-drop, length-replicate}
+use lib.Seq.{drop-cons, getD-drop, getD-set-same, getD-set-other}
 use borrow.Author.Tests.{eq-eqb, ne-eqb}
 use Rattle.layers.specs.Items.{entryAt, freeEntry}
 use Rattle.layers.specs.Search.{one, countIf, namesRecord, naming}
 use Rattle.layers.specs.Rules.{parentOf}
-use Rattle.layers.specs.RulesTally.{Counted, Parented}
-use Rattle.layers.proofs.CountLaws.{count-below}
+use Rattle.layers.specs.RulesTally.{Counted, Parented, FreeFrom}
+use Rattle.layers.proofs.CountLaws.{count-below, none-count}
 use Rattle.layers.specs.declared.items.Entry.{Entry}
 
 -- the entry at place `j`, read as `p` and `c`
@@ -76,8 +76,14 @@ counted-room es a j w l h b g =
 
 -- ---- the start and each turn of the walk
 
-nothing-left : (es : List Entry) → length es ≡ 128 → drop 128 es ≡ []
-nothing-left es l = drop-of-length-le es {i = 128} (omega arith)
+free-names-none : (r : ℕ) → namesRecord r freeEntry ≡ false
+unfolding namesRecord
+free-names-none r = refl
+
+no-parent : (es : List Entry) (r : ℕ) → ((j : ℕ) → namesRecord r (entryAt es j) ≡ false) → parentOf es r ≡ 0
+unfolding parentOf
+no-parent [] r h = refl
+no-parent (e ∷ es) r h = rw (h 0) (no-parent es r (λ j. h (suc j)))
 
 zeros-at : (n r : ℕ) → _≡_ {A = ℕ} (getD (replicate n 0) r 0) 0
 zeros-at zero r = refl
@@ -85,13 +91,18 @@ zeros-at (suc n) zero = refl
 zeros-at (suc n) (suc r) = zeros-at n r
 
 module _ (es : List Entry) (a : List ℕ) where
-  pub counted-start : length es ≡ 128 → a ≡ replicate 256 0 → Counted (drop 128 es) a
-  unfolding countIf
-  counted-start l e = rw (e, nothing-left es l) (record { sized = length-replicate {A = ℕ} 256 0; counts = λ r _. zeros-at 256 r })
+  -- the places from `n` on are free
+  module _ (n : ℕ) (g : FreeFrom freeEntry es n) where
+    none-left : (r j : ℕ) → namesRecord r (entryAt (drop n es) j) ≡ false
+    none-left r j = ap (namesRecord r) (getD-drop n es j freeEntry ∙ g .rest (n + j) (omega arith)) ∙ free-names-none r
 
-  pub parented-start : length es ≡ 128 → a ≡ replicate 256 0 → Parented (drop 128 es) a
-  unfolding parentOf
-  parented-start l e = rw (e, nothing-left es l) (record { sized = length-replicate {A = ℕ} 256 0; parents = λ r _. zeros-at 256 r })
+    pub counted-start : a ≡ replicate 256 0 → Counted (drop n es) a
+    counted-start e =
+        rw e
+        (record { sized = length-replicate {A = ℕ} 256 0; counts = λ r _. zeros-at 256 r ∙ sym (none-count (namesRecord r) freeEntry (free-names-none r) (drop n es) (none-left r)) })
+
+    pub parented-start : a ≡ replicate 256 0 → Parented (drop n es) a
+    parented-start e = rw e (record { sized = length-replicate {A = ℕ} 256 0; parents = λ r _. zeros-at 256 r ∙ sym (no-parent (drop n es) r (none-left r)) })
 
   module _ (j : ℕ) where
     pub counted-before : 0 < j → Counted (drop j es) a → Counted (drop (j - 1 + 1) es) a

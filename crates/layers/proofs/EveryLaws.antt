@@ -7,7 +7,7 @@ use native.Mathlib.Numerals.{add-one}
 use mathlib.Core.Bool.{Bool, true, false, not, cond}
 use mathlib.Core.List.{List, [], _∷_}
 use lib.Dec.{eqb, ltb, leb}
-use lib.ListN.{length, drop, getD, drop-of-length-le, List·getD-eq-default}
+use lib.ListN.{length, drop, getD, List·getD-eq-default}
 use lib.Seq.{drop-cons}
 use borrow.Author.Tests.{eq-eqb, eqb-true, eqb-false, ltb-true, ltb-false, le-leb, leb-true}
 use Rattle.layers.specs.Rules.{Exactly, every}
@@ -15,24 +15,20 @@ use Rattle.layers.specs.Rules.{Exactly, every}
 pub no-true : {A : Type 0} → false ≡ true → A
 no-true e = absurd (let z : _≡_ {A = ℕ} 0 1 = cc in omega arith)
 
--- ---- walked: `ys` from place `s` on is what is tested, and `xs` from `i` on what is left of it at place `k`
+-- ---- the first `m` walked: `ys` from place `s` on is what is tested, and `xs` from `i` on what is left of it at place `k`
 
-module _ {A : Type 0} (p : ℕ → A → Bool) (xs ys : List A) (d : A) (s k i : ℕ) where
+module _ {A : Type 0} (p : ℕ → A → Bool) (xs ys : List A) (d : A) (s k i m n : ℕ) where
   every-step : i < length xs → every p k (drop i xs) ≡ cond (p k (getD xs i d)) (every p (suc k) (drop (suc i) xs)) false
   unfolding every
   every-step h = rw (drop-cons xs i d h) refl
 
-  pub every-next : (r : Bool) → r ≡ p k (getD xs i d) → r ≡ true → (n : ℕ) → length xs ≡ n → i < n → every p k (drop i xs) ≡ every p s ys → every p (k + 1) (drop (i + 1) xs) ≡ every p s ys
-  every-next r q f n l h e = rw (add-one k, add-one i) (sym (every-step (omega arith) ∙ ap (λ t. cond t (every p (suc k) (drop (suc i) xs)) false) (sym q ∙ f)) ∙ e)
+  pub every-next : (r : Bool) → r ≡ p k (getD xs i d) → r ≡ true → length xs ≡ n → m ≤ n → i < m → every p k (drop i xs) ≡ every p s ys → every p (k + 1) (drop (i + 1) xs) ≡ every p s ys
+  every-next r q f l b h e = rw (add-one k, add-one i) (sym (every-step (omega arith) ∙ ap (λ t. cond t (every p (suc k) (drop (suc i) xs)) false) (sym q ∙ f)) ∙ e)
 
-  pub every-not : (r : Bool) → r ≡ p k (getD xs i d) → r ≡ false → (n : ℕ) → length xs ≡ n → i < n → every p k (drop i xs) ≡ every p s ys → false ≡ every p s ys
-  every-not r q f n l h e = sym (every-step (omega arith) ∙ ap (λ t. cond t (every p (suc k) (drop (suc i) xs)) false) (sym q ∙ f)) ∙ e
+  pub every-not : (r : Bool) → r ≡ p k (getD xs i d) → r ≡ false → length xs ≡ n → m ≤ n → i < m → every p k (drop i xs) ≡ every p s ys → false ≡ every p s ys
+  every-not r q f l b h e = sym (every-step (omega arith) ∙ ap (λ t. cond t (every p (suc k) (drop (suc i) xs)) false) (sym q ∙ f)) ∙ e
 
-  pub every-end : (n : ℕ) → length xs ≡ n → n ≤ i → every p k (drop i xs) ≡ every p s ys → true ≡ every p s ys
-  unfolding every
-  every-end n l h e = sym (rw (drop-of-length-le xs {i = i} (omega arith)) refl) ∙ e
-
-pub ruleset every-walk = (every-next, every-not, every-end)
+pub ruleset every-walk = (every-next, every-not)
 
 -- ---- what it says of each place
 
@@ -51,7 +47,7 @@ module _ {A : Type 0} (p : ℕ → A → Bool) (d : A) where
       go true e = e
       go false e = no-true e
 
-  all-from : (k : ℕ) (xs : List A) → ((i : ℕ) → i < length xs → p (k + i) (getD xs i d) ≡ true) → every p k xs ≡ true
+  pub all-from : (k : ℕ) (xs : List A) → ((i : ℕ) → i < length xs → p (k + i) (getD xs i d) ≡ true) → every p k xs ≡ true
   unfolding every
   all-from k [] h = refl
   all-from k (x ∷ xs) h =

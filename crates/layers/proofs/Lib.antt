@@ -8,10 +8,12 @@ pub mod ItemLaws
 pub mod Determined
 pub mod WordLaws
 pub mod ZeroLaws
+pub mod ZeroRuns
 pub mod Places
 pub mod EveryLaws
 pub mod CountLaws
 pub mod CountTally
+pub mod FreeTail
 pub mod FreeLaws
 pub mod RuleLaws
 pub mod ReachLaws

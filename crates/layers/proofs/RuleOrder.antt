@@ -6,16 +6,19 @@ use native.Mathlib.Omega.{arith}
 use native.Mathlib.Decide.{ℕ-discrete}
 use mathlib.Core.Bool.{Bool, true, false}
 use mathlib.Core.List.{List, [], _∷_}
+use lib.Dec.{ltb}
 use lib.ListN.{length, take, getD}
+use borrow.Author.Tests.{ltb-true, ltb-false}
 use Rattle.layers.specs.Names.{Name, orderOf}
-use Rattle.layers.specs.Items.{entryAt}
+use Rattle.layers.specs.Items.{entryAt, freeEntry}
 use Rattle.layers.specs.Search.{nameOf}
 use Rattle.layers.specs.Order.{insertStep, insertBy, spotStep, spotFrom, putIn}
 use Rattle.layers.specs.Sorted.{Below, Sorted}
 use Rattle.layers.specs.Rules.{Used, NamesAreDistinct, distinctTest}
+use Rattle.layers.specs.RulesTally.{FreeFrom}
 use Rattle.layers.specs.RulesOrder.{placeKey, isOpen, putSpot, PutPlace}
 use Rattle.layers.proofs.EveryLaws.{no-true}
-use Rattle.layers.proofs.RuleDistinct.{distinct-exactly, used-inside}
+use Rattle.layers.proofs.RuleDistinct.{distinct-exactly}
 use Rattle.layers.proofs.OrderLaws.{before-lt, after-gt, order-eq, same-one, same-self}
 use Rattle.layers.proofs.SortLaws.{insert-sorted, Halved, halved-same}
 use Rattle.layers.proofs.PlaceLaws.{insert-free, length-put-in}
@@ -183,12 +186,16 @@ module _ (es : List Entry) (p : List ℕ) (j n : ℕ) (g : Ordered es j (take n 
             at-q q h v (yes z) = subst (λ (k : ℕ). Has k (insertBy (placeKey es) j (take n p))) (sym z) (has-new (placeKey es) j 0 i (take n p) e)
             at-q q h v (no z) = has-insert (placeKey es) j q (take n p) (g .all q (let w : (q ≡ j → ⊥) = z in omega arith) v)
 
-  pub ordered-end : length es ≡ 128 → 128 ≤ j → true ≡ distinctTest es
+  pub ordered-end : (m : ℕ) → FreeFrom freeEntry es m → m ≤ j → true ≡ distinctTest es
   unfolding placeKey
-  ordered-end l h = sym (distinct-exactly es .whole two)
+  ordered-end m f h = sym (distinct-exactly es .whole two)
     where
       inside : (i : ℕ) → Used es i → i < j
-      inside i u = let k : i < length es = used-inside es i u in omega arith
+      inside i u = go (ltb i j) refl
+        where
+          go : (b : Bool) → ltb i j ≡ b → i < j
+          go true b = ltb-true i j b
+          go false b = absurd (u (ap (λ (e : Entry). e .parent) (f .rest i (let k : j ≤ i = ltb-false i j b in omega arith))))
 
       two : NamesAreDistinct es
       two i k u v a b = sorted-once (placeKey es) i k (take n p) (g .in-order) (g .all i (inside i u) u) (g .all k (inside k v) v) (ap₂ _∷_ a b)

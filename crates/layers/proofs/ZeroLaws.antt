@@ -33,7 +33,7 @@ zero-number (b ∷ bs) = go (eqb b 0) refl (zero-number bs)
     go true e ih = scaled b (leOf bs) (eqb-true b 0 e) ∙ ih
     go false e ih = ne-eqb (b + 256 * leOf bs) 0 (λ h. eqb-false b 0 e (omega arith))
 
-zeros-append : (xs ys : List ℕ) → allZero (xs ++ ys) ≡ cond (allZero xs) (allZero ys) false
+pub zeros-append : (xs ys : List ℕ) → allZero (xs ++ ys) ≡ cond (allZero xs) (allZero ys) false
 unfolding allZero
 zeros-append [] ys = refl
 zeros-append (x ∷ xs) ys = go (eqb x 0) (zeros-append xs ys)

@@ -1,6 +1,6 @@
--- What one pass over the entries collects for each record, and the rules of one place together. Assumes nothing.
+-- What one pass over the entries collects for each record, how far the used places reach, and the rules of one place together. Assumes nothing.
 use mathlib.Core.Path.{_≡_}
-use Prim.Native.Nat.{ℕ, _<_}
+use Prim.Native.Nat.{ℕ, _≤_, _<_}
 use mathlib.Core.Bool.{Bool, false, cond}
 use mathlib.Core.List.{List}
 use lib.ListN.{length, getD}
@@ -18,6 +18,10 @@ pub record Counted (es : List Entry) (a : List ℕ) : Type 0 where
 pub record Parented (es : List Entry) (a : List ℕ) : Type 0 where
   pub sized : length a ≡ 256
   pub parents : (r : ℕ) → r < 256 → getD a r 0 ≡ parentOf es r
+
+-- the places from `n` on are free: "A free place is 32 zero bytes."
+pub record FreeFrom {A : Type 0} (free : A) (xs : List A) (n : ℕ) : Type 0 where
+  pub rest : (j : ℕ) → n ≤ j → getD xs j free ≡ free
 
 -- ---- the rules of one place, as one walk runs them
 

@@ -1,5 +1,6 @@
 use Rattle.layers.proofs.RuleWalks.{entries-together}
 use Rattle.layers.proofs.ItemLaws.{length-entries}
+use Rattle.layers.proofs.FreeTail.{entries-end}
 use Rattle.layers.proofs.EveryLaws.{every-walk}
 use Rattle.layers.specs.RulesTally.{entryHolds}
 use Rattle.layers.specs.Rules.{every}
@@ -12,10 +13,10 @@ use Rattle.layers.proofs.rules.entries_are_good.Statement.{statement}
 use Rattle.layers.proofs.rules.entries_are_good.Tie as tie
 
 abbrev Inv-loop : tie.InvT-loop
-Inv-loop t j₀ j = (j ≤ 128) × (every (entryHolds (recordsOf t)) j (drop j (entriesOf t)) ≡ every (entryHolds (recordsOf t)) 0 (entriesOf t))
+Inv-loop t n j₀ j = (j ≤ n) × (every (entryHolds (recordsOf t)) j (drop j (entriesOf t)) ≡ every (entryHolds (recordsOf t)) 0 (entriesOf t))
 
 abbrev μ-loop : tie.MeasureT-loop
-μ-loop t j₀ j = 128 - j
+μ-loop t n j₀ j = n - j
 
 loop-holds : tie.Need-loop-holds Inv-loop μ-loop
 loop-holds c = search needs
@@ -36,7 +37,7 @@ returns : tie.Need-returns Inv-loop μ-loop
 returns c = search (entries-together, every-walk, length-entries, needs)
 
 returns-2 : tie.Need-returns-2 Inv-loop μ-loop
-returns-2 c = search (entries-together, every-walk, length-entries, needs)
+returns-2 c = search (entries-together, entries-end, needs)
 
 pub entries-are-good-spec : {M : Type 1} → statement M
 entries-are-good-spec =

@@ -16,6 +16,9 @@ returns-2 : tie.Need-returns-2
 unfolding validTest
 returns-2 c = search (cases, turned, needs) depth 14
 
+entries-to-requires : tie.Need-entries-to-requires
+entries-to-requires c κs = search needs
+
 entries-are-good-requires : tie.Need-entries-are-good-requires
 entries-are-good-requires c κs = search needs
 
@@ -44,6 +47,7 @@ valid-spec =
     returns
     root-is-good-requires
     returns-2
+    entries-to-requires
     entries-are-good-requires
     returns-3
     records-hold-requires
