@@ -11,7 +11,7 @@ use Rattle.layers.specs.Names.{Name}
 use Rattle.layers.specs.declared.search.Found.{Found}
 use Rattle.layers.specs.declared.search.Found.the-variants.{At, Missing}
 use Rattle.merge.specs.Nodes.{nodeOf, nodesOf, nodeAt, nodeName, countOf}
-use Rattle.merge.specs.State.{findChild, isFound, hasParent, those}
+use Rattle.merge.specs.State.{isFound, hasParent, those}
 use Rattle.merge.specs.Methods.{withLoaded}
 use Rattle.merge.specs.Changes.{putBytes}
 use Rattle.merge.specs.Load.{isLoaded, suffices, toAdd, addNames, stackList, loadNode, loadNodeBytes, loadAnswer, loadBytes}
@@ -20,10 +20,10 @@ use Rattle.merge.specs.declared.load.Loading.the-variants.{Done, NoRoom}
 use Rattle.merge.proofs.StateLaws.{node-is, length-nodes}
 use Rattle.merge.proofs.HeadLaws.{nodes-fit}
 use Rattle.merge.proofs.NodeFits.{node-whole}
-use Rattle.merge.proofs.FoundLaws.{child-below, child-found}
+use Rattle.merge.proofs.SeatLaws.{held-below, held-key}
 use Rattle.calls.specs.Refusal.{Test, passed, refusalNumber, packed}
 use Rattle.calls.specs.Parents.{placeNumbered, isWhite, loadTests, loadedState, loadingCall}
-use Rattle.calls.specs.Lookup.{absent, placeNamed, childNamed}
+use Rattle.calls.specs.Lookup.{nameIn, absent, placeNamed, childNamed}
 use Rattle.calls.specs.Count.{childCounts, weight}
 use Rattle.calls.specs.declared.refusal.Refusal.{Refusal}
 use Rattle.calls.specs.declared.refusal.Answer.the-variants.{Refused}
@@ -66,16 +66,16 @@ refused-errno r = mul-div-cancel-left (refusalNumber r) {n = 4294967296} (omega 
 -- "A name of over 28 bytes is absent"
 pub long-absent : (s : List ℕ) (p : ℕ) (x : Name) → 28 < length x → absent s p x ≡ true
 unfolding isFound
-long-absent s p x l = go (findChild (nodesOf s) p x) refl
+long-absent s p x l = go (nameIn s p x) refl
   where
     short : (k : ℕ) → k < countOf s → length (nodeName (nodeAt (nodesOf s) k)) ≤ 28
     short k h = rw (node-is s k h) (unfold nodeOf in simp length-take (omega arith))
 
-    go : (f : Found) → findChild (nodesOf s) p x ≡ f → not (isFound f) ≡ true
+    go : (f : Found) → nameIn s p x ≡ f → not (isFound f) ≡ true
     go Missing e = refl
     go (At k) e =
-        let b : k < countOf s = child-below s (findChild (nodesOf s) p x) k e p x refl in
-        let n : nodeName (nodeAt (nodesOf s) k) ≡ x = ap (drop 1) (child-found s (findChild (nodesOf s) p x) k e p x refl) in
+        let b : k < countOf s = held-below s (nameIn s p x) k e p x refl in
+        let n : nodeName (nodeAt (nodesOf s) k) ≡ x = ap (drop 1) (held-key s (nameIn s p x) k e p x refl) in
         let m : length (nodeName (nodeAt (nodesOf s) k)) ≡ length x = ap length n in
         absurd (omega (arith, short k b))
 

@@ -10,10 +10,12 @@ use Rattle.layers.specs.declared.items.Record.{Record}
 use Rattle.layers.specs.declared.search.Found.{Found}
 use Rattle.layers.specs.declared.search.Found.the-variants.{At}
 use Rattle.merge.specs.Nodes.{nodesOf, nodeAt}
-use Rattle.merge.specs.State.{findNumber, findChild}
+use Rattle.merge.specs.State.{findNumber}
+use Rattle.merge.specs.Seats.{seatOf, holder}
 use Rattle.merge.specs.Load.{loadBytes}
 use Rattle.merge.specs.declared.stacks.Pair.{Pair}
 use Rattle.merge.specs.declared.node.Node.{Node}
+use Rattle.merge.specs.declared.seat.Seat.{Seat}
 use Rattle.calls.specs.Refusal.{Test, test, afterTests, passed}
 use Rattle.calls.specs.Lengths.{lengthsTest}
 use Rattle.calls.specs.Parents.{placeNumbered, numbered, unknown, topOf, loadTests, loadedState}
@@ -41,7 +43,7 @@ pub room-for : (b : Bool) (t s : List ℕ) (e : Found) (k m : ℕ) → m ≡ len
 room-for b t s e k m h g = let i : 1 + m ≡ suc (length (missing s k)) = omega arith in g ∙ ap (λ (n : ℕ). overfull t e n n) i
 
 -- ---- what is written
-module _ (t s : List ℕ) (k : ℕ) (n : Node) (q : n ≡ nodeAt (nodesOf s) k) (f : Found) (x : Name) where
+module _ (t s : List ℕ) (k : ℕ) (n : Node) (q : n ≡ nodeAt (nodesOf s) k) (f : Seat) (x : Name) where
   pub fills-table : (r : Record) (d : Pair) (v : List ℕ) → d ≡ topOf n → v ≡ addNew (d .number) x r t → v ≡ filled k f x r (up t s) .table
   unfolding filled
   fills-table r d v e g = g ∙ rw (e, q) refl
@@ -55,7 +57,7 @@ module _ (t s : List ℕ) (k : ℕ) (n : Node) (q : n ≡ nodeAt (nodesOf s) k) 
     unfolding filled
     fills-state r v g = g ∙ rw (h, q) refl
 
-module _ (ts : List Test) (a : Answer) (q : a ≡ afterTests ts (Fine 0)) (j : ℕ) (f : Found) (x : Name) (r : Record) (k : ℕ) (h : a ≡ Fine k) (t s : List ℕ) (w : Up) (e : t ≡ w .table) (d : s ≡ w .state) where
+module _ (ts : List Test) (a : Answer) (q : a ≡ afterTests ts (Fine 0)) (j : ℕ) (f : Seat) (x : Name) (r : Record) (k : ℕ) (h : a ≡ Fine k) (t s : List ℕ) (w : Up) (e : t ≡ w .table) (d : s ≡ w .state) where
   pub created-value : (n : ℕ) → n ≡ filledNumber j f x (up t s) → Fine n ≡ afterTests ts (Fine (filledNumber j f x w))
   created-value = value-behind ts a q (filledNumber j f x) (filled j f x r) k h t s w e d
 
@@ -66,18 +68,18 @@ module _ (ts : List Test) (a : Answer) (q : a ≡ afterTests ts (Fine 0)) (j : �
   created-state = state-behind ts a q (filledNumber j f x) (filled j f x r) k h t s w e d
 
 -- ---- in the directory of number `p`
-module _ (u l v : List ℕ) (p : ℕ) (x : Name) (r : Record) (k : ℕ) (m : k ≡ placeNumbered v p) (f : Found) (n : f ≡ findChild (nodesOf v) p x) (w : Found) (o : w ≡ whiteoutEntry u v k f x) where
-  pub in-answered : (z : Answer) → z ≡ createdAt u l v x r k f w .answer → z ≡ createdIn u l v p x r .answer
+module _ (u l v : List ℕ) (p : ℕ) (x : Name) (r : Record) (k : ℕ) (m : k ≡ placeNumbered v p) (t : Seat) (b : t ≡ seatOf (nodesOf v) p x) (f : Found) (n : f ≡ holder t) (w : Found) (o : w ≡ whiteoutEntry u v k f x) where
+  pub in-answered : (z : Answer) → z ≡ createdAt u l v x r k f t w .answer → z ≡ createdIn u l v p x r .answer
   unfolding creationBehind createdNumber
-  in-answered z d = d ∙ rw (o, n, m) refl
+  in-answered z d = d ∙ rw (o, n, b, m) refl
 
-  pub in-left : (z : List ℕ) → z ≡ createdAt u l v x r k f w .state → z ≡ createdIn u l v p x r .state
+  pub in-left : (z : List ℕ) → z ≡ createdAt u l v x r k f t w .state → z ≡ createdIn u l v p x r .state
   unfolding creationBehind created
-  in-left z d = d ∙ rw (o, n, m) refl
+  in-left z d = d ∙ rw (o, n, b, m) refl
 
-  pub in-wrote : (z : List ℕ) → z ≡ createdAt u l v x r k f w .upper → z ≡ createdIn u l v p x r .upper
+  pub in-wrote : (z : List ℕ) → z ≡ createdAt u l v x r k f t w .upper → z ≡ createdIn u l v p x r .upper
   unfolding creationBehind created
-  in-wrote z d = d ∙ rw (o, n, m) refl
+  in-wrote z d = d ∙ rw (o, n, b, m) refl
 
 -- ---- the call
 module _ (u l s : List ℕ) (bad : Bool) (p : ℕ) (x : Name) (a : Answer) (q : a ≡ afterTests (creationBefore u l s bad p x) (Fine (placeNumbered s p))) (i : ℕ) (h : a ≡ Fine i) where

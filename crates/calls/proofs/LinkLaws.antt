@@ -2,7 +2,7 @@
 use mathlib.Core.Path.{_≡_, refl, sym, ap, _∙_}
 use Prim.Native.Nat.{ℕ, suc, _+_}
 use native.Mathlib.Omega.{arith}
-use mathlib.Core.Bool.{Bool, not, cond}
+use mathlib.Core.Bool.{Bool, true, not, cond}
 use mathlib.Core.List.{List, [], _∷_}
 use lib.ListN.{length}
 use Rattle.layers.specs.Names.{Name, malformedName}
@@ -11,17 +11,19 @@ use Rattle.layers.specs.declared.items.Entry.{Entry}
 use Rattle.layers.specs.declared.search.Found.{Found}
 use Rattle.layers.specs.declared.search.Found.the-variants.{At}
 use Rattle.merge.specs.Nodes.{nodesOf, nodeAt}
-use Rattle.merge.specs.State.{findNumber, findChild}
-use Rattle.merge.specs.Load.{loadBytes}
+use Rattle.merge.specs.State.{findNumber}
+use Rattle.merge.specs.Seats.{seatOf, holder}
+use Rattle.merge.specs.Load.{isLoaded, loadNodeBytes, loadBytes}
 use Rattle.merge.specs.declared.stacks.Pair.{Pair}
 use Rattle.merge.specs.declared.node.Node.{Node}
+use Rattle.merge.specs.declared.seat.Seat.{Seat}
 use Rattle.calls.specs.Refusal.{Test, test, afterTests, passed}
 use Rattle.calls.specs.Lengths.{lengthsTest}
-use Rattle.calls.specs.Parents.{placeNumbered, numbered, unknown, isWhite, isDirectoryNode, topOf, loadTests, loadedState}
+use Rattle.calls.specs.Parents.{placeOf, placeNumbered, numbered, unknown, isWhite, isDirectoryNode, topOf, loadTests, loadedState}
 use Rattle.calls.specs.Upper.{Up, up, namedState, namedNumber}
 use Rattle.calls.specs.Room.{missingEither, whiteoutEntry, overfull}
 use Rattle.calls.specs.Writing.{hasUpper}
-use Rattle.calls.specs.Link.{linkNodes, linkBefore, linked, linkedNumber, linkedAt, linkBehind, madeLink, madeLinkNumber, linkedIn, linkSpec}
+use Rattle.calls.specs.Link.{Still, linkNodes, linkBefore, linked, linkedNumber, linkedAt, linkBehind, madeLink, madeLinkNumber, linkedIn, linkSpec}
 use Rattle.calls.specs.declared.refusal.Refusal.the-variants.{Einval, Enoent, Erofs}
 use Rattle.calls.specs.declared.refusal.Answer.{Answer}
 use Rattle.calls.specs.declared.refusal.Answer.the-variants.{Fine}
@@ -50,7 +52,7 @@ pub room-for-link : (b : Bool) (t s : List ℕ) (e : Found) (j k m : ℕ) → m 
 room-for-link b t s e j k m h g = let i : 1 + m ≡ suc m = omega arith in g ∙ ap (λ (n : ℕ). overfull t e m n) i ∙ ap (λ (n : ℕ). overfull t e n (suc n)) h
 
 -- ---- what is written
-module _ (t s : List ℕ) (j k : ℕ) (n : Node) (q : n ≡ nodeAt (nodesOf s) j) (c : Pair) (h : c ≡ topOf n) (m : Node) (r : m ≡ nodeAt (nodesOf s) k) (f : Found) (x : Name) where
+module _ (t s : List ℕ) (j k : ℕ) (n : Node) (q : n ≡ nodeAt (nodesOf s) j) (c : Pair) (h : c ≡ topOf n) (m : Node) (r : m ≡ nodeAt (nodesOf s) k) (f : Seat) (x : Name) where
   pub links-number : (z : ℕ) → z ≡ namedNumber f (m .number) x (c .number) s → z ≡ linkedNumber j k f x (up t s)
   unfolding linkedNumber
   links-number z g = g ∙ rw (h, q, r) refl
@@ -63,7 +65,7 @@ module _ (t s : List ℕ) (j k : ℕ) (n : Node) (q : n ≡ nodeAt (nodesOf s) j
   unfolding linked
   links-state z g = g ∙ rw (h, q, r) refl
 
-module _ (ts : List Test) (a : Answer) (q : a ≡ afterTests ts (Fine 0)) (i j : ℕ) (f : Found) (x : Name) (k : ℕ) (h : a ≡ Fine k) (t s : List ℕ) (w : Up) (e : t ≡ w .table) (d : s ≡ w .state) where
+module _ (ts : List Test) (a : Answer) (q : a ≡ afterTests ts (Fine 0)) (i j : ℕ) (f : Seat) (x : Name) (k : ℕ) (h : a ≡ Fine k) (t s : List ℕ) (w : Up) (e : t ≡ w .table) (d : s ≡ w .state) where
   pub linked-value : (n : ℕ) → n ≡ linkedNumber i j f x (up t s) → Fine n ≡ afterTests ts (Fine (linkedNumber i j f x w))
   linked-value = value-behind ts a q (linkedNumber i j f x) (linked i j f x) k h t s w e d
 
@@ -74,18 +76,27 @@ module _ (ts : List Test) (a : Answer) (q : a ≡ afterTests ts (Fine 0)) (i j :
   linked-state = state-behind ts a q (linkedNumber i j f x) (linked i j f x) k h t s w e d
 
 -- ---- of the source `y` into the directory of number `p`
-module _ (u l v : List ℕ) (y p : ℕ) (x : Name) (j : ℕ) (i : j ≡ placeNumbered v y) (k : ℕ) (m : k ≡ placeNumbered v p) (f : Found) (n : f ≡ findChild (nodesOf v) p x) (w : Found) (o : w ≡ whiteoutEntry u v k f x) where
-  pub in-answered : (z : Answer) → z ≡ linkedAt u l v x j k f w .answer → z ≡ linkedIn u l v y p x .answer
+module _ (u l v : List ℕ) (y p : ℕ) (x : Name) (j : ℕ) (i : j ≡ placeNumbered v y) (k : ℕ) (m : k ≡ placeNumbered v p) (t : Seat) (b : t ≡ seatOf (nodesOf v) p x) (f : Found) (n : f ≡ holder t) (w : Found) (o : w ≡ whiteoutEntry u v k f x) where
+  pub in-answered : (z : Answer) → z ≡ linkedAt u l v x j k f t w .answer → z ≡ linkedIn u l v y p x .answer
   unfolding linkBehind madeLinkNumber
-  in-answered z d = d ∙ rw (o, n, m, i) refl
+  in-answered z d = d ∙ rw (o, n, b, m, i) refl
 
-  pub in-left : (z : List ℕ) → z ≡ linkedAt u l v x j k f w .state → z ≡ linkedIn u l v y p x .state
+  pub in-left : (z : List ℕ) → z ≡ linkedAt u l v x j k f t w .state → z ≡ linkedIn u l v y p x .state
   unfolding linkBehind madeLink
-  in-left z d = d ∙ rw (o, n, m, i) refl
+  in-left z d = d ∙ rw (o, n, b, m, i) refl
 
-  pub in-wrote : (z : List ℕ) → z ≡ linkedAt u l v x j k f w .upper → z ≡ linkedIn u l v y p x .upper
+  pub in-wrote : (z : List ℕ) → z ≡ linkedAt u l v x j k f t w .upper → z ≡ linkedIn u l v y p x .upper
   unfolding linkBehind madeLink
-  in-wrote z d = d ∙ rw (o, n, m, i) refl
+  in-wrote z d = d ∙ rw (o, n, b, m, i) refl
+
+-- ---- the source, where it was found before the load
+module _ (s : List ℕ) (n : ℕ) (f : Found) where
+  pub place-still : (b : Bool) (r : ℕ) → Still b f s n → b ≡ true → r ≡ placeOf (nodesOf s) f → r ≡ placeNumbered s n
+  place-still b r h e q = q ∙ ap (placeOf (nodesOf s)) (h .still e)
+
+  pub still-there : (u l v : List ℕ) (i : ℕ) (b : Bool) → f ≡ findNumber (nodesOf s) n → b ≡ isLoaded (nodeAt (nodesOf s) i) → v ≡ loadBytes u l s i → Still b f v n
+  unfolding loadNodeBytes
+  still-there u l v i b h g d = record { still = λ t. let z : v ≡ s = d ∙ rw (← g, t) refl in h ∙ ap (λ (w : List ℕ). findNumber (nodesOf w) n) (sym z) }
 
 -- ---- the call
 module _ (u l s : List ℕ) (y p : ℕ) (x : Name) (a : Answer) (q : a ≡ afterTests (linkBefore u l s y p x) (Fine (placeNumbered s p))) (i : ℕ) (h : a ≡ Fine i) where

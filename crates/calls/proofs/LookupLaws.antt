@@ -1,5 +1,5 @@
 -- Lookup, from what the code's tests showed. Assumes nothing.
-use mathlib.Core.Path.{_≡_, refl, _∙_}
+use mathlib.Core.Path.{_≡_, refl, ap, _∙_}
 use Prim.Native.Nat.{ℕ}
 use mathlib.Core.Bool.{Bool, true, false, cond}
 use mathlib.Core.List.{List, []}
@@ -8,20 +8,25 @@ use Rattle.layers.specs.declared.search.Found.{Found}
 use Rattle.layers.specs.declared.search.Found.the-variants.{At, Missing}
 use Rattle.merge.specs.Nodes.{nodesOf, nodeAt}
 use Rattle.merge.specs.Methods.{counted}
-use Rattle.merge.specs.State.{findChild, isFound}
+use Rattle.merge.specs.State.{isFound}
+use Rattle.merge.specs.Seats.{seatOf, holder}
 use Rattle.merge.specs.Changes.{putBytes}
 use Rattle.merge.specs.Load.{loadBytes}
 use Rattle.merge.specs.declared.node.Node.{Node}
+use Rattle.merge.specs.declared.seat.Seat.{Seat}
 use Rattle.calls.specs.Refusal.{afterTests, passed}
 use Rattle.calls.specs.Parents.{placeOf, placeNumbered, isWhite, loadTests, loadedState}
-use Rattle.calls.specs.Lookup.{childNamed, lookupBefore, nameTests, countedState, lookupSpec}
+use Rattle.calls.specs.Lookup.{nameIn, childNamed, lookupBefore, nameTests, countedState, lookupSpec}
 use Rattle.calls.specs.declared.refusal.Refusal.the-variants.{Enoent}
 use Rattle.calls.specs.declared.refusal.Answer.{Answer}
 use Rattle.calls.specs.declared.refusal.Answer.the-variants.{Fine, Refused}
 use Rattle.calls.proofs.LoadingLaws.{loaded-is, answered-behind, left-behind}
 
 -- ---- the name in the loaded directory
-module _ (s : List ℕ) (p : ℕ) (x : Name) (f : Found) (q : f ≡ findChild (nodesOf s) p x) where
+module _ (s : List ℕ) (p : ℕ) (x : Name) (y : Seat) (b : y ≡ seatOf (nodesOf s) p x) (f : Found) (r : f ≡ holder y) where
+  q : f ≡ nameIn s p x
+  q = r ∙ ap holder b
+
   pub name-absent : f ≡ Missing → Refused Enoent ≡ afterTests (nameTests s p x) (Fine (childNamed s p x .number))
   unfolding nameTests afterTests isFound
   name-absent h = rw (← q, h) refl

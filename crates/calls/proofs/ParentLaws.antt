@@ -1,7 +1,8 @@
 -- The parent search and the load, from what the code's tests showed. Assumes nothing.
-use mathlib.Core.Path.{_≡_, refl, sym, _∙_}
+use mathlib.Core.Path.{_≡_, refl, sym, ap, _∙_}
 use Prim.Native.Nat.{ℕ}
-use mathlib.Core.Bool.{Bool, true, false}
+use mathlib.Core.Bool.{Bool, true, false, not}
+use lib.Dec.{eqb}
 use mathlib.Core.List.{List}
 use lib.ListN.{getD}
 use borrow.Author.Tests.{eq-eqb, ne-eqb}
@@ -11,7 +12,7 @@ use Rattle.merge.specs.Nodes.{noPair, nodesOf, nodeAt, countOf}
 use Rattle.merge.specs.State.{findNumber, isFound}
 use Rattle.merge.specs.Tables.{tableOf}
 use Rattle.merge.specs.Scan.{isWalked}
-use Rattle.merge.specs.Load.{loadAnswer}
+use Rattle.merge.specs.Load.{isLoaded, loadAnswer}
 use Rattle.merge.specs.declared.node.Node.{Node}
 use Rattle.merge.specs.declared.load.Loading.{Loading}
 use Rattle.merge.specs.declared.load.Loading.the-variants.{Done, NoRoom}
@@ -60,16 +61,23 @@ module _ (u l s : List ℕ) (k : ℕ) (a : Loading) (q : a ≡ loadAnswer u l s 
   unfolding loadTests afterTests
   load-refused h = rw (← q, h) refl
 
--- ---- by number, where a node that is not there is no node
-module _ (s : List ℕ) (x : ℕ) where
-  module _ (f : Found) (q : f ≡ findNumber (nodesOf s) x) where
-    pub place-behind : (c : ℕ) → f ≡ Missing → c ≡ countOf s → c ≡ placeNumbered s x
-    unfolding placeOf
-    place-behind c h e = (e ∙ sym (length-nodes s)) ∙ rw (← q, h) refl
+pub loaded-at : (n m : Node) → n ≡ m → not (eqb (n .loaded) 0) ≡ isLoaded m
+unfolding isLoaded
+loaded-at n m e = ap (λ (k : Node). not (eqb (k .loaded) 0)) e
 
-    pub place-there : (k : ℕ) → f ≡ At k → k ≡ placeNumbered s x
-    unfolding placeOf
-    place-there k h = rw (← q, h) refl
+-- ---- by number, where a node that is not there is no node
+module _ (s : List ℕ) (f : Found) where
+  pub place-behind : (c : ℕ) → f ≡ Missing → c ≡ countOf s → c ≡ placeOf (nodesOf s) f
+  unfolding placeOf
+  place-behind c h e = (e ∙ sym (length-nodes s)) ∙ rw h refl
+
+  pub place-there : (k : ℕ) → f ≡ At k → k ≡ placeOf (nodesOf s) f
+  unfolding placeOf
+  place-there k h = rw h refl
+
+module _ (s : List ℕ) (x : ℕ) where
+  pub place-found : (f : Found) (k : ℕ) → f ≡ findNumber (nodesOf s) x → k ≡ placeOf (nodesOf s) f → k ≡ placeNumbered s x
+  place-found f k q e = e ∙ ap (placeOf (nodesOf s)) q
 
   pub node-placed : (k : ℕ) (n : Node) → k ≡ placeNumbered s x → n ≡ nodeAt (nodesOf s) k → n ≡ numbered s x
   node-placed k n e h = h ∙ rw e refl

@@ -17,14 +17,16 @@ use Rattle.layers.specs.declared.search.Found.the-variants.{At, Missing}
 use Rattle.layers.proofs.ChangeLaws.{record-below}
 use Rattle.merge.specs.Nodes.{nodesOf, nodeAt}
 use Rattle.merge.specs.Methods.{withStack, withWhite, alone}
-use Rattle.merge.specs.Changes.{putBytes, newNumber, newBytes}
+use Rattle.merge.specs.Changes.{putBytes, seatedNumber, seatedBytes}
 use Rattle.merge.specs.Tables.{tableOf}
 use Rattle.merge.specs.Stacks.{pair, stackFrom}
 use Rattle.merge.specs.Load.{newNode}
 use Rattle.merge.specs.declared.stacks.Pair.{Pair}
 use Rattle.merge.specs.declared.node.Node.{Node}
+use Rattle.merge.specs.declared.seat.Seat.{Seat}
+use Rattle.merge.specs.declared.seat.Seat.the-variants.{Held, Open}
 use Rattle.calls.specs.Parents.{topOf}
-use Rattle.calls.specs.Upper.{Up, up, inUpper, recordNumber, newRecord, addNew, topRecord, emptied, withoutWhiteout, upperAlone, namedState, namedNumber}
+use Rattle.calls.specs.Upper.{Up, up, inUpper, recordNumber, newRecord, addNew, topRecord, emptied, withoutWhiteout, upperAlone, givenRecord, namedState, namedNumber}
 use Rattle.calls.proofs.RecordLaws.{record-none, record-there}
 
 -- ---- the two parts of what a call has in hand
@@ -109,21 +111,28 @@ pub alone-made : (p : ℕ) (x : Name) (c : ℕ) (z q : Pair) (n : Node) → z �
 unfolding stackFrom
 alone-made p x c z q n a b d = d ∙ rw (b, a) refl
 
-module _ (f : Found) (p : ℕ) (x : Name) (c : ℕ) (s s′ : List ℕ) where
-  module _ (h : f ≡ Missing) (m : Node) (e : m ≡ upperAlone p x c) where
-    pub named-new : (r : ℕ) → r ≡ newNumber s m → r ≡ namedNumber f p x c s
+pub number-kept : (s : List ℕ) (j : ℕ) (n : Node) → n ≡ nodeAt (nodesOf s) j → n .number ≡ nodeAt (nodesOf s) j .number
+number-kept s j n e = ap (λ (m : Node). m .number) e
+
+pub record-given : (s s′ : List ℕ) (j c : ℕ) (n : Node) (q : Pair) (a b : Node) → n ≡ nodeAt (nodesOf s) j → q ≡ pair 0 c → a ≡ alone n q → b ≡ withWhite a 0 → s′ ≡ putBytes s j b → s′ ≡ givenRecord s j c
+unfolding givenRecord
+record-given s s′ j c n q a b e i k m g = g ∙ rw (m, k, i, e) refl
+
+module _ (t : Seat) (p : ℕ) (x : Name) (c : ℕ) (s s′ : List ℕ) (r : ℕ) where
+  module _ (k : ℕ) (h : t ≡ Open k) where
+    pub named-new : r ≡ seatedNumber s k → r ≡ namedNumber t p x c s
     unfolding namedNumber
-    named-new r q = q ∙ rw (e, h) refl
+    named-new q = q ∙ rw h refl
 
-    pub put-new : s′ ≡ newBytes s m → s′ ≡ namedState f p x c s
+    pub put-new : (m : Node) → m ≡ upperAlone p x c → s′ ≡ seatedBytes s m k → s′ ≡ namedState t p x c s
     unfolding namedState
-    put-new q = q ∙ rw (e, h) refl
+    put-new m e q = q ∙ rw (e, h) refl
 
-  module _ (j : ℕ) (h : f ≡ At j) (n : Node) (e : n ≡ nodeAt (nodesOf s) j) where
-    pub named-kept : n .number ≡ namedNumber f p x c s
+  module _ (j : ℕ) (h : t ≡ Held j) where
+    pub named-kept : r ≡ nodeAt (nodesOf s) j .number → r ≡ namedNumber t p x c s
     unfolding namedNumber
-    named-kept = rw (e, h) refl
+    named-kept q = q ∙ rw h refl
 
-    pub put-kept : (q : Pair) (a b : Node) → q ≡ pair 0 c → a ≡ alone n q → b ≡ withWhite a 0 → s′ ≡ putBytes s j b → s′ ≡ namedState f p x c s
+    pub put-kept : s′ ≡ givenRecord s j c → s′ ≡ namedState t p x c s
     unfolding namedState
-    put-kept q a b i k m g = g ∙ rw (m, k, i, e, h) refl
+    put-kept q = q ∙ rw h refl

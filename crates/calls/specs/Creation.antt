@@ -13,12 +13,14 @@ use Rattle.layers.specs.declared.kinds.Kind.the-variants.{Fifo, Character, Dire
 use Rattle.layers.specs.declared.search.Found.{Found}
 use Rattle.merge.specs.Classes.{isWhiteout}
 use Rattle.merge.specs.declared.node.Node.{Node}
+use Rattle.merge.specs.declared.seat.Seat.{Seat}
 use Rattle.calls.specs.Refusal.{Test, test}
 use Rattle.calls.specs.Lengths.{lengthsTest}
 use Rattle.calls.specs.Parents.{placeNumbered, numbered, unknown, isWhite, isDirectoryNode, loadedState}
+use Rattle.calls.specs.Lookup.{seatNamed, nameIn}
 use Rattle.calls.specs.Upper.{Up, up, nodeIn, upperRecord, newRecord, addNew, madePath, withoutWhiteout, namedState, namedNumber}
 use Rattle.calls.specs.Room.{missing, overfull}
-use Rattle.calls.specs.Writing.{Written, hasUpper, writingCall, isLiveName, isLong, noPlace, nameIn, whiteoutIn, behindLoad}
+use Rattle.calls.specs.Writing.{Written, hasUpper, writingCall, isLiveName, isLong, noPlace, whiteoutIn, behindLoad}
 use Rattle.calls.specs.declared.refusal.Refusal.the-variants.{Eperm, Enoent, Eexist, Enotdir, Einval, Enfile, Enospc, Erofs, Enametoolong}
 
 -- ---- the new record
@@ -72,23 +74,23 @@ creationTests t s k f e x r =
 abbrev pub prepared : List ℕ → ℕ → Found → Found → Up → Up
 prepared l k f e u = madePath l k (withoutWhiteout e f u)
 
--- the record, its entry and the name's node
-unfoldable pub filled : ℕ → Found → Name → Record → Up → Up
-filled k f x r u =
+-- the record, its entry and the name's node; `t` is the name's seat
+unfoldable pub filled : ℕ → Seat → Name → Record → Up → Up
+filled k t x r u =
     record {
       table = addNew (upperRecord u k) x r (u .table);
-      state = namedState f (nodeIn u k .number) x (newRecord (u .table)) (u .state);
+      state = namedState t (nodeIn u k .number) x (newRecord (u .table)) (u .state);
     }
 
-unfoldable pub filledNumber : ℕ → Found → Name → Up → ℕ
-filledNumber k f x u = namedNumber f (nodeIn u k .number) x (newRecord (u .table)) (u .state)
+unfoldable pub filledNumber : ℕ → Seat → Name → Up → ℕ
+filledNumber k t x u = namedNumber t (nodeIn u k .number) x (newRecord (u .table)) (u .state)
 
--- at the parent's place, that of the name's node and that of its upper whiteout's entry
-abbrev pub createdAt : List ℕ → List ℕ → List ℕ → Name → Record → ℕ → Found → Found → Written
-createdAt u l s x r k f e =
+-- at the parent's place, that of the name's node, the name's seat and the place of its upper whiteout's entry
+abbrev pub createdAt : List ℕ → List ℕ → List ℕ → Name → Record → ℕ → Found → Seat → Found → Written
+createdAt u l s x r k f t e =
     behindLoad u s (creationTests u s k f e x r)
-    (filled k f x r (prepared l k f e (up u s)))
-    (filledNumber k f x (prepared l k f e (up u s)))
+    (filled k t x r (prepared l k f e (up u s)))
+    (filledNumber k t x (prepared l k f e (up u s)))
 
 -- ---- the calls
 
@@ -100,10 +102,10 @@ abbrev pub preparedIn : List ℕ → List ℕ → List ℕ → ℕ → Name → 
 preparedIn u l s p x = prepared l (placeNumbered s p) (nameIn s p x) (whiteoutIn u s p x) (up u s)
 
 unfoldable pub created : List ℕ → List ℕ → List ℕ → ℕ → Name → Record → Up
-created u l s p x r = filled (placeNumbered s p) (nameIn s p x) x r (preparedIn u l s p x)
+created u l s p x r = filled (placeNumbered s p) (seatNamed s p x) x r (preparedIn u l s p x)
 
 unfoldable pub createdNumber : List ℕ → List ℕ → List ℕ → ℕ → Name → ℕ
-createdNumber u l s p x = filledNumber (placeNumbered s p) (nameIn s p x) x (preparedIn u l s p x)
+createdNumber u l s p x = filledNumber (placeNumbered s p) (seatNamed s p x) x (preparedIn u l s p x)
 
 abbrev pub createdIn : List ℕ → List ℕ → List ℕ → ℕ → Name → Record → Written
 createdIn u l s p x r = behindLoad u s (creationBehind u s p x r) (created u l s p x r) (createdNumber u l s p x)

@@ -3,26 +3,36 @@ use Prim.Native.Nat.{ℕ}
 use mathlib.Core.Bool.{Bool, not}
 use mathlib.Core.List.{List, [], _∷_}
 use Rattle.layers.specs.Names.{Name, malformedName}
+use Rattle.layers.specs.declared.search.Found.{Found}
 use Rattle.merge.specs.Nodes.{nodesOf, nodeAt}
 use Rattle.merge.specs.Methods.{counted}
-use Rattle.merge.specs.State.{findChild, isFound}
+use Rattle.merge.specs.State.{isFound}
+use Rattle.merge.specs.Seats.{seatOf, holder}
 use Rattle.merge.specs.Changes.{putBytes}
 use Rattle.merge.specs.declared.node.Node.{Node}
+use Rattle.merge.specs.declared.seat.Seat.{Seat}
 use Rattle.calls.specs.Refusal.{Test, test, Outcome}
 use Rattle.calls.specs.Lengths.{lengthsTest}
 use Rattle.calls.specs.Parents.{placeOf, isWhite, parentTests, loadedState, loadingCall}
 use Rattle.calls.specs.declared.refusal.Refusal.the-variants.{Enoent, Einval}
 
+-- the seat of the name `x` in the directory of number `p`, and where its node stands
+abbrev pub seatNamed : List ℕ → ℕ → Name → Seat
+seatNamed s p x = seatOf (nodesOf s) p x
+
+abbrev pub nameIn : List ℕ → ℕ → Name → Found
+nameIn s p x = holder (seatNamed s p x)
+
 -- the place of the node that `p` has under the name `x`, and that node
 abbrev pub placeNamed : List ℕ → ℕ → Name → ℕ
-placeNamed s p x = placeOf (nodesOf s) (findChild (nodesOf s) p x)
+placeNamed s p x = placeOf (nodesOf s) (nameIn s p x)
 
 abbrev pub childNamed : List ℕ → ℕ → Name → Node
 childNamed s p x = nodeAt (nodesOf s) (placeNamed s p x)
 
 -- `p` has no node of the name; a name of over 28 bytes no node has
 abbrev pub absent : List ℕ → ℕ → Name → Bool
-absent s p x = not (isFound (findChild (nodesOf s) p x))
+absent s p x = not (isFound (nameIn s p x))
 
 -- "22, 2 unknown or whiteout parent, 20"
 unfoldable pub lookupBefore : List ℕ → List ℕ → List ℕ → ℕ → Name → List Test

@@ -14,11 +14,13 @@ use Rattle.layers.specs.declared.search.Found.{Found}
 use Rattle.layers.specs.declared.search.Found.the-variants.{At, Missing}
 use Rattle.merge.specs.Nodes.{noPair, nodesOf, nodeAt, nodeName}
 use Rattle.merge.specs.Methods.{withStack, withWhite, topped, alone}
-use Rattle.merge.specs.Changes.{putBytes, newNumber, newBytes}
+use Rattle.merge.specs.Changes.{putBytes, seatedNumber, seatedBytes}
 use Rattle.merge.specs.Tables.{tableOf}
 use Rattle.merge.specs.Stacks.{pair, stackFrom}
 use Rattle.merge.specs.Load.{newNode}
 use Rattle.merge.specs.declared.node.Node.{Node}
+use Rattle.merge.specs.declared.seat.Seat.{Seat}
+use Rattle.merge.specs.declared.seat.Seat.the-variants.{Held, Open}
 use Rattle.calls.specs.Parents.{placeNumbered, topOf, isDirectoryNode}
 
 -- what such a call has in hand: the upper layer's table and the state
@@ -149,11 +151,15 @@ withoutWhiteout Missing f u = u
 abbrev pub upperAlone : ℕ → Name → ℕ → Node
 upperAlone p x c = newNode p (stackFrom (pair 0 c ∷ []) false) x
 
--- "The node keeps number and count; its stack becomes the new record."; a name without a node gets one
-unfoldable pub namedState : Found → ℕ → Name → ℕ → List ℕ → List ℕ
-namedState (At j) p x c s = putBytes s j (withWhite (alone (nodeAt (nodesOf s) j) (pair 0 c)) 0)
-namedState Missing p x c s = newBytes s (upperAlone p x c)
+-- "The node keeps number and count; its stack becomes the new record."
+unfoldable pub givenRecord : List ℕ → ℕ → ℕ → List ℕ
+givenRecord s j c = putBytes s j (withWhite (alone (nodeAt (nodesOf s) j) (pair 0 c)) 0)
 
-unfoldable pub namedNumber : Found → ℕ → Name → ℕ → List ℕ → ℕ
-namedNumber (At j) p x c s = nodeAt (nodesOf s) j .number
-namedNumber Missing p x c s = newNumber s (upperAlone p x c)
+-- so where the name has a node; one without gets it at the name's seat
+unfoldable pub namedState : Seat → ℕ → Name → ℕ → List ℕ → List ℕ
+namedState (Held j) p x c s = givenRecord s j c
+namedState (Open k) p x c s = seatedBytes s (upperAlone p x c) k
+
+unfoldable pub namedNumber : Seat → ℕ → Name → ℕ → List ℕ → ℕ
+namedNumber (Held j) p x c s = nodeAt (nodesOf s) j .number
+namedNumber (Open k) p x c s = seatedNumber s k

@@ -8,10 +8,11 @@ use Rattle.layers.specs.Names.{Name}
 use Rattle.layers.specs.declared.search.Found.{Found}
 use Rattle.layers.specs.declared.search.Found.the-variants.{At, Missing}
 use Rattle.merge.specs.Nodes.{nodesOf, nodeAt}
-use Rattle.merge.specs.State.{findChild, isFound}
+use Rattle.merge.specs.State.{isFound}
 use Rattle.merge.specs.Load.{suffices}
 use Rattle.calls.specs.Refusal.{Test, test, afterTests, passed, Outcome}
 use Rattle.calls.specs.Parents.{placeNumbered, isWhite, loadTests, loadingCall}
+use Rattle.calls.specs.Lookup.{nameIn}
 use Rattle.calls.specs.Upper.{Up}
 use Rattle.calls.specs.Room.{whiteoutEntry}
 use Rattle.calls.specs.declared.refusal.Answer.{Answer}
@@ -52,10 +53,7 @@ noPlace s f = cond (isFound f) false (not (suffices s 1))
 
 -- ---- behind the load, which left the state `s`
 
--- where the name's node stands in the directory of number `p`, and the upper entry of its whiteout
-abbrev pub nameIn : List ℕ → ℕ → Name → Found
-nameIn s p x = findChild (nodesOf s) p x
-
+-- the upper entry of the whiteout that the name is in the directory of number `p`
 abbrev pub whiteoutIn : List ℕ → List ℕ → ℕ → Name → Found
 whiteoutIn t s p x = whiteoutEntry t s (placeNumbered s p) (nameIn s p x) x
 

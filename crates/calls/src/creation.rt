@@ -22,6 +22,8 @@ use layers::kinds;
 use layers::kinds::Kind;
 use layers::search::Found;
 use merge::node::Node;
+use merge::seat;
+use merge::seat::Seat;
 use merge::stacks;
 use merge::state;
 
@@ -105,14 +107,14 @@ fn creation_tests(
 // ---- what is written
 
 // The record, its entry and the name's node, in a directory that is in the upper layer; the node's number.
-fn fill(s: &mut [u8], upper: &mut [u8], k: usize, f: Found, x: &[u8], r: Record) -> u32
+fn fill(s: &mut [u8], upper: &mut [u8], k: usize, t: Seat, x: &[u8], r: Record) -> u32
     requires { ⌜ length (now upper) ≡ 8192 ⌝ }
-    ensures { λ n. ⌜ (n ≡ filledNumber k f (now (x .entry)) (up (now (upper .entry)) (now (s .entry)))) × (now (upper .exit) ≡ filled k f (now (x .entry)) r (up (now (upper .entry)) (now (s .entry))) .table) × (now (s .exit) ≡ filled k f (now (x .entry)) r (up (now (upper .entry)) (now (s .entry))) .state) ⌝ }
+    ensures { λ n. ⌜ (n ≡ filledNumber k t (now (x .entry)) (up (now (upper .entry)) (now (s .entry)))) × (now (upper .exit) ≡ filled k t (now (x .entry)) r (up (now (upper .entry)) (now (s .entry))) .table) × (now (s .exit) ≡ filled k t (now (x .entry)) r (up (now (upper .entry)) (now (s .entry))) .state) ⌝ }
 {
     let n = state::node_at(s, k);
     let d = upper::top_of(n);
     let c = upper::add_new(upper, d.number, x, r);
-    upper::name_node(s, f, n.number, x, c)
+    upper::name_node(s, t, n.number, x, c)
 }
 
 // The upper layer without the whiteout and with the parent's path.
@@ -124,26 +126,27 @@ fn prepare(s: &mut [u8], upper: &mut [u8], lower: &[u8], k: usize, f: Found, e: 
     copy_up::create_upper_dir(s, upper, lower, k, 16);
 }
 
-// In the loaded directory: the tests, and what they let be written; `f` and `e` as in the tests.
+// In the loaded directory: the tests, and what they let be written; `f` and `e` as in the tests, `t` is the name's seat.
 fn create_at(
     s: &mut [u8],
     upper: &mut [u8],
     lower: &[u8],
     k: usize,
     f: Found,
+    t: Seat,
     e: Found,
     x: &[u8],
     r: Record,
 ) -> Answer
     requires { ⌜ length (now upper) ≡ 8192 ⌝ }
-    ensures { λ a. ⌜ (a ≡ createdAt (now (upper .entry)) (now (lower .entry)) (now (s .entry)) (now (x .entry)) r k f e .answer) × (now (s .exit) ≡ createdAt (now (upper .entry)) (now (lower .entry)) (now (s .entry)) (now (x .entry)) r k f e .state) × (now (upper .exit) ≡ createdAt (now (upper .entry)) (now (lower .entry)) (now (s .entry)) (now (x .entry)) r k f e .upper) ⌝ }
+    ensures { λ a. ⌜ (a ≡ createdAt (now (upper .entry)) (now (lower .entry)) (now (s .entry)) (now (x .entry)) r k f t e .answer) × (now (s .exit) ≡ createdAt (now (upper .entry)) (now (lower .entry)) (now (s .entry)) (now (x .entry)) r k f t e .state) × (now (upper .exit) ≡ createdAt (now (upper .entry)) (now (lower .entry)) (now (s .entry)) (now (x .entry)) r k f t e .upper) ⌝ }
 {
-    let t = creation_tests(s, upper, k, f, e, x, r);
-    let Answer::Fine(_) = t else {
-        return t;
+    let a = creation_tests(s, upper, k, f, e, x, r);
+    let Answer::Fine(_) = a else {
+        return a;
     };
     prepare(s, upper, lower, k, f, e);
-    Answer::Fine(fill(s, upper, k, f, x, r) as usize)
+    Answer::Fine(fill(s, upper, k, t, x, r) as usize)
 }
 
 // ---- the calls
@@ -154,9 +157,10 @@ fn create_in(s: &mut [u8], upper: &mut [u8], lower: &[u8], p: u64, x: &[u8], r: 
     ensures { λ a. ⌜ (a ≡ createdIn (now (upper .entry)) (now (lower .entry)) (now (s .entry)) p (now (x .entry)) r .answer) × (now (s .exit) ≡ createdIn (now (upper .entry)) (now (lower .entry)) (now (s .entry)) p (now (x .entry)) r .state) × (now (upper .exit) ≡ createdIn (now (upper .entry)) (now (lower .entry)) (now (s .entry)) p (now (x .entry)) r .upper) ⌝ }
 {
     let k = parent::place_numbered(s, p);
-    let f = state::child(s, p, x);
+    let t = seat::seat_of(s, p, x);
+    let f = seat::holder(t);
     let e = room::whiteout_entry(s, upper, k, f, x);
-    create_at(s, upper, lower, k, f, e, x, r)
+    create_at(s, upper, lower, k, f, t, e, x, r)
 }
 
 // A creation; `bad` says that an argument is malformed.

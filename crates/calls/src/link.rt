@@ -5,7 +5,8 @@ ghost use Rattle.merge.specs.Nodes.{nodesOf, nodeAt};
 ghost use Rattle.calls.specs.Refusal.{afterTests};
 ghost use Rattle.calls.specs.Parents.{placeNumbered};
 ghost use Rattle.calls.specs.Upper.{up};
-ghost use Rattle.calls.specs.Link.{linkNodes, linkBefore, linkTests, linkable, linked, linkedNumber, linkedAt, linkedIn, linkSpec};
+ghost use Rattle.merge.specs.State.{findNumber};
+ghost use Rattle.calls.specs.Link.{Still, linkNodes, linkBefore, linkTests, linkable, linked, linkedNumber, linkedAt, linkedIn, linkSpec};
 ghost use Rattle.calls.specs.declared.refusal.Answer.the-variants.{Fine};
 use crate::copy_up;
 use crate::lengths;
@@ -16,6 +17,8 @@ use crate::room;
 use crate::upper;
 use crate::writing;
 use layers::search::Found;
+use merge::seat;
+use merge::seat::Seat;
 use merge::state;
 
 // ---- the order of tests
@@ -41,8 +44,17 @@ fn link_nodes<'a>(s: &[u8], upper: &'a [u8], lower: &'a [u8], j: usize, k: usize
     Answer::Refused(Refusal::Enotdir)
 }
 
-// The tests before the load; the new parent's place.
-fn link_place<'a>(s: &[u8], upper: &'a [u8], lower: &'a [u8], n: u64, p: u64, x: &[u8]) -> Answer
+// The tests before the load, `f` being where the source `n` was found; the new parent's place.
+fn link_place<'a>(
+    s: &[u8],
+    upper: &'a [u8],
+    lower: &'a [u8],
+    f: Found,
+    n: u64,
+    p: u64,
+    x: &[u8],
+) -> Answer
+    requires { ⌜ f ≡ findNumber (nodesOf (now s)) n ⌝ }
     ensures { λ r. ⌜ r ≡ afterTests (linkBefore (now (upper .entry)) (now (lower .entry)) (now (s .entry)) n p (now (x .entry))) (Fine (placeNumbered (now (s .entry)) p)) ⌝ }
 {
     if !lengths::lengths_fit(s, upper, lower) {
@@ -51,7 +63,6 @@ fn link_place<'a>(s: &[u8], upper: &'a [u8], lower: &'a [u8], n: u64, p: u64, x:
     if layers::names::malformed(x) {
         return Answer::Refused(Refusal::Einval);
     }
-    let f = state::find(s, n);
     let Found::At(j) = f else {
         return Answer::Refused(Refusal::Enoent);
     };
@@ -99,19 +110,19 @@ fn prepare(s: &mut [u8], upper: &mut [u8], lower: &[u8], j: usize, k: usize, f: 
 }
 
 // The entry and the name's node; the node's number.
-fn put_link(s: &mut [u8], upper: &mut [u8], j: usize, k: usize, f: Found, x: &[u8]) -> u32
+fn put_link(s: &mut [u8], upper: &mut [u8], j: usize, k: usize, t: Seat, x: &[u8]) -> u32
     requires { ⌜ length (now upper) ≡ 8192 ⌝ }
-    ensures { λ n. ⌜ (n ≡ linkedNumber j k f (now (x .entry)) (up (now (upper .entry)) (now (s .entry)))) × (now (upper .exit) ≡ linked j k f (now (x .entry)) (up (now (upper .entry)) (now (s .entry))) .table) × (now (s .exit) ≡ linked j k f (now (x .entry)) (up (now (upper .entry)) (now (s .entry))) .state) ⌝ }
+    ensures { λ n. ⌜ (n ≡ linkedNumber j k t (now (x .entry)) (up (now (upper .entry)) (now (s .entry)))) × (now (upper .exit) ≡ linked j k t (now (x .entry)) (up (now (upper .entry)) (now (s .entry))) .table) × (now (s .exit) ≡ linked j k t (now (x .entry)) (up (now (upper .entry)) (now (s .entry))) .state) ⌝ }
 {
     let c = upper::top_of(state::node_at(s, j));
     let m = state::node_at(s, k);
     let d = upper::top_of(m);
     let e = layers::change::entry_naming(d.number, x, c.number);
     layers::change::add_entry(upper, e);
-    upper::name_node(s, f, m.number, x, c.number)
+    upper::name_node(s, t, m.number, x, c.number)
 }
 
-// In the loaded directory: the tests, and what they let be written; the parameters as in the tests.
+// In the loaded directory: the tests, and what they let be written; the parameters as in the tests, `t` is the name's seat.
 fn link_at(
     s: &mut [u8],
     upper: &mut [u8],
@@ -119,44 +130,84 @@ fn link_at(
     j: usize,
     k: usize,
     f: Found,
+    t: Seat,
     e: Found,
     x: &[u8],
 ) -> Answer
     requires { ⌜ length (now upper) ≡ 8192 ⌝ }
-    ensures { λ a. ⌜ (a ≡ linkedAt (now (upper .entry)) (now (lower .entry)) (now (s .entry)) (now (x .entry)) j k f e .answer) × (now (s .exit) ≡ linkedAt (now (upper .entry)) (now (lower .entry)) (now (s .entry)) (now (x .entry)) j k f e .state) × (now (upper .exit) ≡ linkedAt (now (upper .entry)) (now (lower .entry)) (now (s .entry)) (now (x .entry)) j k f e .upper) ⌝ }
+    ensures { λ a. ⌜ (a ≡ linkedAt (now (upper .entry)) (now (lower .entry)) (now (s .entry)) (now (x .entry)) j k f t e .answer) × (now (s .exit) ≡ linkedAt (now (upper .entry)) (now (lower .entry)) (now (s .entry)) (now (x .entry)) j k f t e .state) × (now (upper .exit) ≡ linkedAt (now (upper .entry)) (now (lower .entry)) (now (s .entry)) (now (x .entry)) j k f t e .upper) ⌝ }
 {
-    let t = link_tests(s, upper, j, k, f, e, x);
-    let Answer::Fine(_) = t else {
-        return t;
+    let a = link_tests(s, upper, j, k, f, e, x);
+    let Answer::Fine(_) = a else {
+        return a;
     };
     prepare(s, upper, lower, j, k, f, e);
-    Answer::Fine(put_link(s, upper, j, k, f, x) as usize)
+    Answer::Fine(put_link(s, upper, j, k, t, x) as usize)
 }
 
 // ---- the call
 
-// In the loaded directory of number `p`; the source is `n`.
-fn link_in(s: &mut [u8], upper: &mut [u8], lower: &[u8], n: u64, p: u64, x: &[u8]) -> Answer
-    requires { ⌜ length (now upper) ≡ 8192 ⌝ }
+// The place of the source `n`, found at `f` before the load, which changed nothing where `same`.
+fn source_place(s: &[u8], same: bool, f: Found, n: u64) -> usize
+    requires { ⌜ Still same f (now s) n ⌝ }
+    ensures { λ r. ⌜ r ≡ placeNumbered (now (s .entry)) n ⌝ }
+{
+    if same {
+        return parent::place_of(s, f);
+    }
+    parent::place_numbered(s, n)
+}
+
+// In the loaded directory of number `p`; the source is `n`, `same` and `f` as for its place.
+fn link_in(
+    s: &mut [u8],
+    upper: &mut [u8],
+    lower: &[u8],
+    same: bool,
+    f: Found,
+    n: u64,
+    p: u64,
+    x: &[u8],
+) -> Answer
+    requires { ⌜ (length (now upper) ≡ 8192) × Still same f (now s) n ⌝ }
     ensures { λ a. ⌜ (a ≡ linkedIn (now (upper .entry)) (now (lower .entry)) (now (s .entry)) n p (now (x .entry)) .answer) × (now (s .exit) ≡ linkedIn (now (upper .entry)) (now (lower .entry)) (now (s .entry)) n p (now (x .entry)) .state) × (now (upper .exit) ≡ linkedIn (now (upper .entry)) (now (lower .entry)) (now (s .entry)) n p (now (x .entry)) .upper) ⌝ }
 {
-    let j = parent::place_numbered(s, n);
+    let j = source_place(s, same, f, n);
     let k = parent::place_numbered(s, p);
-    let f = state::child(s, p, x);
-    let e = room::whiteout_entry(s, upper, k, f, x);
-    link_at(s, upper, lower, j, k, f, e, x)
+    let t = seat::seat_of(s, p, x);
+    let h = seat::holder(t);
+    let e = room::whiteout_entry(s, upper, k, h, x);
+    link_at(s, upper, lower, j, k, h, t, e, x)
+}
+
+// Of the source `n`, which was found at `f`.
+fn link_found(
+    s: &mut [u8],
+    upper: &mut [u8],
+    lower: &[u8],
+    f: Found,
+    n: u64,
+    p: u64,
+    x: &[u8],
+) -> Answer
+    requires { ⌜ f ≡ findNumber (nodesOf (now s)) n ⌝ }
+    ensures { λ a. ⌜ (a ≡ linkSpec (now (upper .entry)) (now (lower .entry)) (now (s .entry)) n p (now (x .entry)) .answer) × (now (s .exit) ≡ linkSpec (now (upper .entry)) (now (lower .entry)) (now (s .entry)) n p (now (x .entry)) .state) × (now (upper .exit) ≡ linkSpec (now (upper .entry)) (now (lower .entry)) (now (s .entry)) n p (now (x .entry)) .upper) ⌝ }
+{
+    let a = link_place(s, upper, lower, f, n, p, x);
+    let Answer::Fine(i) = a else {
+        return a;
+    };
+    let same = parent::is_loaded(s, i);
+    let b = parent::load_at(s, upper, lower, i);
+    let Answer::Fine(_) = b else {
+        return b;
+    };
+    link_in(s, upper, lower, same, f, n, p, x)
 }
 
 pub fn link(s: &mut [u8], upper: &mut [u8], lower: &[u8], n: u64, p: u64, x: &[u8]) -> Answer
     ensures { λ a. ⌜ (a ≡ linkSpec (now (upper .entry)) (now (lower .entry)) (now (s .entry)) n p (now (x .entry)) .answer) × (now (s .exit) ≡ linkSpec (now (upper .entry)) (now (lower .entry)) (now (s .entry)) n p (now (x .entry)) .state) × (now (upper .exit) ≡ linkSpec (now (upper .entry)) (now (lower .entry)) (now (s .entry)) n p (now (x .entry)) .upper) ⌝ }
 {
-    let a = link_place(s, upper, lower, n, p, x);
-    let Answer::Fine(i) = a else {
-        return a;
-    };
-    let b = parent::load_at(s, upper, lower, i);
-    let Answer::Fine(_) = b else {
-        return b;
-    };
-    link_in(s, upper, lower, n, p, x)
+    let f = state::find(s, n);
+    link_found(s, upper, lower, f, n, p, x)
 }

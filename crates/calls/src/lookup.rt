@@ -11,6 +11,7 @@ use crate::refusal::Answer;
 use crate::refusal::Refusal;
 use layers::search::Found;
 use merge::change;
+use merge::seat;
 use merge::state;
 
 // The tests before the load; the parent's place.
@@ -30,7 +31,7 @@ fn lookup_place<'a>(s: &[u8], upper: &'a [u8], lower: &'a [u8], p: u64, x: &[u8]
 fn count_lookup(s: &mut [u8], p: u64, x: &[u8]) -> Answer
     ensures { λ r. ⌜ (r ≡ afterTests (nameTests (now (s .entry)) p (now (x .entry))) (Fine (childNamed (now (s .entry)) p (now (x .entry)) .number))) × (now (s .exit) ≡ cond (passed (nameTests (now (s .entry)) p (now (x .entry)))) (countedState (now (s .entry)) p (now (x .entry))) (now (s .entry))) ⌝ }
 {
-    let f = state::child(s, p, x);
+    let f = seat::holder(seat::seat_of(s, p, x));
     let Found::At(k) = f else {
         return Answer::Refused(Refusal::Enoent);
     };

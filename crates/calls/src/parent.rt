@@ -1,9 +1,10 @@
 // The node that a call names by its number, and whether it is a live directory.
 ghost use mathlib.Core.Path.{_≡_};
 ghost use Rattle.calls.specs.Refusal.{afterTests};
-ghost use Rattle.calls.specs.Parents.{isWhite, isDirectoryNode, parentTests, placeNumbered, numbered, loadTests};
+ghost use Rattle.calls.specs.Parents.{isWhite, isDirectoryNode, parentTests, placeOf, placeNumbered, numbered, loadTests};
 ghost use Rattle.calls.specs.declared.refusal.Answer.the-variants.{Fine};
-ghost use Rattle.merge.specs.Load.{loadBytes};
+ghost use Rattle.merge.specs.Nodes.{nodesOf, nodeAt};
+ghost use Rattle.merge.specs.Load.{isLoaded, loadBytes};
 use crate::refusal::Answer;
 use crate::refusal::Refusal;
 use layers::search::Found;
@@ -19,6 +20,14 @@ pub fn is_white(n: Node) -> bool
     ensures { λ b. ⌜ b ≡ isWhite n ⌝ }
 {
     n.white != 0
+}
+
+// Whether the node at place `k` is loaded.
+pub fn is_loaded(s: &[u8], k: usize) -> bool
+    ensures { λ b. ⌜ b ≡ isLoaded (nodeAt (nodesOf (now (s .entry))) k) ⌝ }
+{
+    let n = state::node_at(s, k);
+    n.loaded != 0
 }
 
 // A node is a directory where its top record is one.
@@ -65,15 +74,21 @@ pub fn load_at<'a>(s: &mut [u8], upper: &'a [u8], lower: &'a [u8], k: usize) -> 
 
 // ---- by number, where a node that is not there is no node
 
-// The place of the node of number `x`; where there is none, the place behind the last.
-pub(crate) fn place_numbered(s: &[u8], x: u64) -> usize
-    ensures { λ r. ⌜ r ≡ placeNumbered (now (s .entry)) x ⌝ }
+// The place found; where nothing is, the place behind the last.
+pub(crate) fn place_of(s: &[u8], f: Found) -> usize
+    ensures { λ r. ⌜ r ≡ placeOf (nodesOf (now (s .entry))) f ⌝ }
 {
-    let f = state::find(s, x);
     let Found::At(k) = f else {
         return head::count(s);
     };
     k
+}
+
+// The place of the node of number `x`; where there is none, the place behind the last.
+pub(crate) fn place_numbered(s: &[u8], x: u64) -> usize
+    ensures { λ r. ⌜ r ≡ placeNumbered (now (s .entry)) x ⌝ }
+{
+    place_of(s, state::find(s, x))
 }
 
 // The node of number `x`; where there is none, no node.

@@ -4,13 +4,15 @@ ghost use Prim.Native.Nat.{_<_};
 ghost use lib.ListN.{length};
 ghost use Rattle.calls.specs.Parents.{topOf};
 ghost use Rattle.merge.specs.Stacks.{pair};
-ghost use Rattle.calls.specs.Upper.{up, inUpper, recordNumber, newRecord, addNew, topRecord, emptied, withoutWhiteout, upperAlone, namedState, namedNumber};
+ghost use Rattle.calls.specs.Upper.{up, inUpper, recordNumber, newRecord, addNew, topRecord, emptied, withoutWhiteout, upperAlone, givenRecord, namedState, namedNumber};
+ghost use Rattle.merge.specs.Nodes.{nodesOf, nodeAt};
 use layers::items;
 use layers::items::Record;
 use layers::search::Found;
 use merge::change;
 use merge::load;
 use merge::node::Node;
+use merge::seat::Seat;
 use merge::stacks::Pair;
 use merge::stacks::Stack;
 use merge::state;
@@ -119,15 +121,21 @@ fn upper_alone(p: u32, x: &[u8], c: u8) -> Node
     load::new_node(p, st, x)
 }
 
-// The name's node gets the upper record `c` alone, or a new node is put in; its number.
-pub(crate) fn name_node(s: &mut [u8], f: Found, p: u32, x: &[u8], c: u8) -> u32
-    ensures { λ r. ⌜ (r ≡ namedNumber f p (now (x .entry)) c (now (s .entry))) × (now (s .exit) ≡ namedState f p (now (x .entry)) c (now (s .entry))) ⌝ }
+// The node at place `j` gets the upper record `c` alone; its number.
+fn give_record(s: &mut [u8], j: usize, c: u8) -> u32
+    ensures { λ r. ⌜ (r ≡ nodeAt (nodesOf (now (s .entry))) j .number) × (now (s .exit) ≡ givenRecord (now (s .entry)) j c) ⌝ }
 {
-    let Found::At(j) = f else {
-        let m = upper_alone(p, x, c);
-        return change::put_new(s, m);
-    };
     let n = state::node_at(s, j);
     change::put_node(s, j, n.alone(upper_pair(c)).with_white(0));
     n.number
+}
+
+// The name's node gets the upper record `c` alone, or a new node is put in at the name's seat; its number.
+pub(crate) fn name_node(s: &mut [u8], t: Seat, p: u32, x: &[u8], c: u8) -> u32
+    ensures { λ r. ⌜ (r ≡ namedNumber t p (now (x .entry)) c (now (s .entry))) × (now (s .exit) ≡ namedState t p (now (x .entry)) c (now (s .entry))) ⌝ }
+{
+    match t {
+        Seat::Held(j) => give_record(s, j, c),
+        Seat::Open(k) => change::put_new_at(s, upper_alone(p, x, c), k),
+    }
 }

@@ -2,6 +2,7 @@
 pub mod NodeLaws
 pub mod HeadLaws
 pub mod StateLaws
+pub mod SeatLaws
 pub mod WordLaws
 pub mod TableLaws
 pub mod ClassLaws
@@ -11,6 +12,7 @@ pub mod PlaceStacks
 pub mod FreshLaws
 pub mod ScanLaws
 pub mod ChangeLaws
+pub mod ShiftLaws
 pub mod PassedLaws
 pub mod LoadLaws
 pub mod NamesOfPlaces

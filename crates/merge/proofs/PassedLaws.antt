@@ -20,7 +20,7 @@ use Rattle.merge.specs.declared.node.Node.{Node}
 use Rattle.merge.specs.Nodes.{noNode, keyOf, countOf, nodesOf}
 use Rattle.merge.specs.State.{Passed}
 use Rattle.merge.specs.Heads.{nextOf}
-use Rattle.merge.specs.Changes.{spotFor, newSpot, given, newNumber, behind}
+use Rattle.merge.specs.Changes.{spotFor, newSpot, behind}
 use Rattle.merge.proofs.HeadLaws.{count-most}
 use Rattle.merge.proofs.StateLaws.{length-nodes}
 use Rattle.merge.proofs.ChangeLaws.{spot-in}
@@ -52,8 +52,10 @@ module _ {A : Type 0} (f : A → Name) (d : A) (x : Name) where
       go After q e (suc j) h ih = ih e j (omega arith)
 
 -- the search from there on
-pub passed-start : (s : List ℕ) (p : ℕ) (x : Name) (k : ℕ) → Passed (nodesOf s) p x k → spotFrom keyOf k (p ∷ x) (drop k (nodesOf s)) ≡ spotFrom keyOf 0 (p ∷ x) (nodesOf s)
-passed-start s p x k h = ap (λ (i : ℕ). spotFrom keyOf i (p ∷ x) (drop k (nodesOf s))) (sym (zero-add k)) ∙ walked-over keyOf noNode (p ∷ x) (nodesOf s) 0 k (h .within) (h .after)
+pub passed-start : (s : List ℕ) (p q : ℕ) (x : Name) (k : ℕ) → q ≡ p → Passed (nodesOf s) p x k → spotFrom keyOf k (q ∷ x) (drop k (nodesOf s)) ≡ spotFrom keyOf 0 (p ∷ x) (nodesOf s)
+passed-start s p q x k e h =
+    ap (λ (i : ℕ). spotFrom keyOf k (i ∷ x) (drop k (nodesOf s))) e
+    ∙ (ap (λ (i : ℕ). spotFrom keyOf i (p ∷ x) (drop k (nodesOf s))) (sym (zero-add k)) ∙ walked-over keyOf noNode (p ∷ x) (nodesOf s) 0 k (h .within) (h .after))
 
 pub passed-within : (s : List ℕ) (p : ℕ) (x : Name) (k c : ℕ) → Passed (nodesOf s) p x k → c ≡ countOf s → k ≤ c
 passed-within s p x k c h e = let z : k ≤ length (nodesOf s) = h .within in omega (arith, length-nodes s)
@@ -102,29 +104,3 @@ pub spot-next : (s : List ℕ) (n : Node) (f : Spot) (j : ℕ) → f ≡ spotFor
 spot-next s n f j q h = let z : j ≤ countOf s = spot-in s n f j q h in omega (arith, count-most s)
 
 pub ruleset behinds = (behind-none, behind-taken, behind-free)
-
--- ---- the number given, from the place behind
-module _ (s : List ℕ) (n : Node) (x r : ℕ) (a : x ≡ nextOf s) (b : r ≡ behind 0 (newSpot s n)) where
-  pub none-given : r ≡ 0 → 0 ≡ newNumber s n
-  unfolding given behind
-  none-given h = go (newSpot s n) (sym b ∙ h)
-    where
-      go : (f : Spot) → behind 0 f ≡ 0 → 0 ≡ given f (nextOf s)
-      go (Free j) e = absurd (omega arith)
-      go Taken e = refl
-
-  pub one-given : (r ≡ 0 → ⊥) → x ≡ newNumber s n
-  unfolding given behind
-  one-given h = a ∙ go (newSpot s n) (λ e. h (b ∙ e))
-    where
-      go : (f : Spot) → (behind 0 f ≡ 0 → ⊥) → nextOf s ≡ given f (nextOf s)
-      go (Free j) e = refl
-      go Taken e = absurd (e refl)
-
-  pub number-left : (r ≡ 0 → ⊥) → x < 4294967296
-  unfolding behind
-  number-left h = go (newSpot s n) refl (λ e. h (b ∙ e))
-    where
-      go : (f : Spot) → newSpot s n ≡ f → (behind 0 f ≡ 0 → ⊥) → x < 4294967296
-      go (Free j) q e = let z : nextOf s ≤ 4294967295 = spot-new-number s n j q in omega arith
-      go Taken q e = absurd (e refl)

@@ -157,14 +157,14 @@ walked-all p s ys a k c e q h = first-none p (nodesOf s) ys noNode a k k c (node
 
 -- ---- the place of a new node
 
-module _ (p : ℕ) (x : Name) (m : Node) (d : ℕ) (q : d ≡ m .parent) where
-  pub order-parent-before : p < d → Before ≡ orderOf (p ∷ x) (keyOf m)
+module _ (p : ℕ) (x : Name) (m : Node) (d w : ℕ) (q : d ≡ m .parent) (e : w ≡ d) where
+  pub order-parent-before : p < w → Before ≡ orderOf (p ∷ x) (keyOf m)
   order-parent-before h = sym (before-lt p (m .parent) x (nodeName m) (omega arith))
 
-  pub order-parent-after : d < p → After ≡ orderOf (p ∷ x) (keyOf m)
+  pub order-parent-after : w < p → After ≡ orderOf (p ∷ x) (keyOf m)
   order-parent-after h = sym (after-gt p (m .parent) x (nodeName m) (omega arith))
 
-  pub order-by-name : d ≤ p → p ≤ d → (o : Order) → o ≡ orderOf x (nodeName m) → o ≡ orderOf (p ∷ x) (keyOf m)
+  pub order-by-name : w ≤ p → p ≤ w → (o : Order) → o ≡ orderOf x (nodeName m) → o ≡ orderOf (p ∷ x) (keyOf m)
   order-by-name g h o f = f ∙ sym (order-eq p (m .parent) x (nodeName m) (omega arith))
 
 module _ (ns : List Node) (x : Name) (c j : ℕ) (s : Spot) (n : length ns ≡ c) (inv : spotFrom keyOf j x (drop j ns) ≡ s) where

@@ -55,6 +55,17 @@ newNumber s n = given (newSpot s n) (nextOf s)
 abbrev pub newBytes : List ℕ → Node → List ℕ
 newBytes s n = insertedAt s (withNumber n (nextOf s)) (numbered (more (headOf s))) (newSpot s n)
 
+-- the place `k`, where a number is left, a further node fits and `k` is among the nodes or right behind them
+unfoldable pub seatSpot : List ℕ → ℕ → Spot
+seatSpot s k = cond (ltb 4294967295 (nextOf s)) Taken (cond (full s) Taken (cond (ltb (countOf s) k) Taken (Free k)))
+
+-- a node put in there with the next number, which is then given
+abbrev pub seatedNumber : List ℕ → ℕ → ℕ
+seatedNumber s k = given (seatSpot s k) (nextOf s)
+
+abbrev pub seatedBytes : List ℕ → Node → ℕ → List ℕ
+seatedBytes s n k = insertedAt s (withNumber n (nextOf s)) (numbered (more (headOf s))) (seatSpot s k)
+
 -- where the search for the next name's place starts, this one's having started at `k`: behind the node put in
 unfoldable pub behind : ℕ → Spot → ℕ
 behind k (Free j) = suc j

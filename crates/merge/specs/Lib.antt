@@ -3,6 +3,7 @@ pub mod Nodes
 pub mod Methods
 pub mod Heads
 pub mod State
+pub mod Seats
 pub mod Tables
 pub mod Classes
 pub mod Scan

@@ -5,7 +5,7 @@ ghost use lib.ListN.{length, take, replicate};
 ghost use Rattle.layers.specs.Bytes.{over, part};
 ghost use Rattle.merge.specs.Nodes.{countOf, nodesOf, nodeName};
 ghost use Rattle.merge.specs.State.{placeFor, Passed};
-ghost use Rattle.merge.specs.Changes.{putBytes, insertedBytes, takenBytes, spotFor, putInBytes, newSpot, newNumber, newBytes, behind};
+ghost use Rattle.merge.specs.Changes.{putBytes, insertedBytes, takenBytes, spotFor, putInBytes, newSpot, newBytes, behind, seatedNumber, seatedBytes};
 use crate::head;
 use crate::head::Head;
 use crate::node;
@@ -35,28 +35,28 @@ pub fn put_node(s: &mut [u8], j: usize, n: Node)
     node::lay_node(s, 12 + 52 * j, n);
 }
 
-// ---- runs of bytes moved, as memmove does
+// ---- a run of bytes moved by one node's length: to the compiler a memmove, since the run starts at the slice's first byte
 
-// The `n` bytes from `p` on, laid over those from `q` on, which stand no earlier.
-fn move_down(t: &mut [u8], p: usize, q: usize, n: usize)
-    requires { ⌜ (p ≤ q) × (q + n ≤ length (now t)) ⌝ }
-    ensures { λ _. ⌜ now (t .exit) ≡ over (now (t .entry)) q (part (now (t .entry)) p n) ⌝ }
+// The first `n` bytes, laid over those from the 52nd on.
+fn move_down(t: &mut [u8], n: usize)
+    requires { ⌜ 52 + n ≤ length (now t) ⌝ }
+    ensures { λ _. ⌜ now (t .exit) ≡ over (now (t .entry)) 52 (part (now (t .entry)) 0 n) ⌝ }
 {
     let mut i = n;
     while 0 < i {
         i -= 1;
-        t[q + i] = t[p + i];
+        t[i + 52] = t[i];
     }
 }
 
-// The `n` bytes from `q` on, laid over those from `p` on, which stand no later.
-fn move_up(t: &mut [u8], p: usize, q: usize, n: usize)
-    requires { ⌜ (p ≤ q) × (q + n ≤ length (now t)) ⌝ }
-    ensures { λ _. ⌜ now (t .exit) ≡ over (now (t .entry)) p (part (now (t .entry)) q n) ⌝ }
+// The `n` bytes from the 52nd on, laid over the first ones.
+fn move_up(t: &mut [u8], n: usize)
+    requires { ⌜ 52 + n ≤ length (now t) ⌝ }
+    ensures { λ _. ⌜ now (t .exit) ≡ over (now (t .entry)) 0 (part (now (t .entry)) 52 n) ⌝ }
 {
     let mut i = 0;
     while i < n {
-        t[p + i] = t[q + i];
+        t[i] = t[i + 52];
         i += 1;
     }
 }
@@ -101,7 +101,8 @@ fn insert(s: &mut [u8], k: usize, n: Node, h: Head)
 {
     let c = head::count(s);
     let a = 12 + 52 * k;
-    move_down(s, a, a + 52, 52 * (c - k));
+    let m = 52 * (c - k);
+    move_down(&mut s[a..], m);
     node::lay_node(s, a, n);
     head::put_head(s, h);
 }
@@ -137,14 +138,23 @@ pub(crate) fn put_new_from(s: &mut [u8], n: Node, k: usize) -> usize
     j + 1
 }
 
-// The same, from the first node on; answers the number, 0 where no number or no place is left.
-pub fn put_new(s: &mut [u8], n: Node) -> u32
-    ensures { λ r. ⌜ (r ≡ newNumber (now (s .entry)) n) × (now (s .exit) ≡ newBytes (now (s .entry)) n) ⌝ }
+// The node put in at place `k` with the next number; answers the number, 0 where no number or no such place is left.
+pub fn put_new_at(s: &mut [u8], n: Node, k: usize) -> u32
+    ensures { λ r. ⌜ (r ≡ seatedNumber (now (s .entry)) k) × (now (s .exit) ≡ seatedBytes (now (s .entry)) n k) ⌝ }
 {
     let x = head::next_number(s);
-    if put_new_from(s, n, 0) == 0 {
+    if 4294967295 < x {
         return 0;
     }
+    if head::is_full(s) {
+        return 0;
+    }
+    if head::count(s) < k {
+        return 0;
+    }
+    let h = head::head_of(s).more().numbered();
+    let m = n.with_number(x as u32);
+    insert(s, k, m, h);
     x as u32
 }
 
@@ -162,7 +172,7 @@ pub fn take_out(s: &mut [u8], k: usize)
     let a = 12 + 52 * k;
     let n = 52 * (c - 1 - k);
     let z = [0u8; 52];
-    move_up(s, a, a + 52, n);
+    move_up(&mut s[a..], n);
     layers::bytes::lay(s, a + n, &z);
     head::put_head(s, h);
 }

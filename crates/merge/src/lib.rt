@@ -5,6 +5,7 @@ pub mod head;
 pub mod load;
 pub mod node;
 pub mod scan;
+pub mod seat;
 pub mod stacks;
 pub mod state;
 pub mod tables;

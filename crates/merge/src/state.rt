@@ -213,7 +213,7 @@ fn lead_in(s: &[u8], j: usize) -> u64
 }
 
 // The same of a name in hand; 0 for one of fewer than 8 bytes.
-fn lead_of(x: &[u8]) -> u64
+pub(crate) fn lead_of(x: &[u8]) -> u64
     ensures { λ r. ⌜ r ≡ leadOf (now (x .entry)) ⌝ }
 {
     if x.len() < 8 {
@@ -244,11 +244,11 @@ fn order_named(s: &[u8], j: usize, x: &[u8], w: u64) -> Order
 }
 
 // How the name `x` in `p` stands to the node at `j`: by the parent's number, then by name.
-fn order_at(s: &[u8], j: usize, p: u32, x: &[u8], w: u64) -> Order
+pub(crate) fn order_at(s: &[u8], j: usize, p: u64, x: &[u8], w: u64) -> Order
     requires { ⌜ (j < countOf (now s)) × (52 * j + 64 ≤ length (now s)) × (w ≡ leadOf (now x)) ⌝ }
     ensures { λ r. ⌜ r ≡ orderOf (p ∷ now (x .entry)) (keyOf (nodeAt (nodesOf (now (s .entry))) j)) ⌝ }
 {
-    let d = parent_in(s, j);
+    let d = node::wide(parent_in(s, j));
     if p < d {
         return Order::Before;
     }
@@ -265,20 +265,14 @@ pub(crate) fn place_from(s: &[u8], p: u32, x: &[u8], k: usize) -> Spot
 {
     let c = head::count(s);
     let w = lead_of(x);
+    let q = node::wide(p);
     let mut j = k;
     while j < c {
-        match order_at(s, j, p, x, w) {
+        match order_at(s, j, q, x, w) {
             Order::Before => return Spot::Free(j),
             Order::Same => return Spot::Taken,
             Order::After => j += 1,
         }
     }
     Spot::Free(c)
-}
-
-// The same, from the first node on.
-pub fn place(s: &[u8], p: u32, x: &[u8]) -> Spot
-    ensures { λ r. ⌜ r ≡ placeFor (nodesOf (now (s .entry))) p (now (x .entry)) ⌝ }
-{
-    place_from(s, p, x, 0)
 }

@@ -28,8 +28,8 @@ prepare-requires c κs = search needs
 fill-requires : tie.Need-fill-requires
 fill-requires c κs = search needs
 
-cast-t24 : tie.Need-cast-t24
-cast-t24 c = search needs
+cast-t25 : tie.Need-cast-t25
+cast-t25 c = search needs
 
 same-length-3 : tie.Need-same-length-3
 same-length-3 c = search needs
@@ -52,7 +52,7 @@ create-at-spec =
     returns
     prepare-requires
     fill-requires
-    cast-t24
+    cast-t25
     same-length-3
     same-length-4
     returns-2)

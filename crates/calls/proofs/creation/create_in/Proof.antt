@@ -6,8 +6,11 @@ use Rattle.calls.proofs.creation.create_in.Tie as tie
 place-numbered-requires : tie.Need-place-numbered-requires
 place-numbered-requires c κs = search needs
 
-child-requires : tie.Need-child-requires
-child-requires c κs = search needs
+seat-of-requires : tie.Need-seat-of-requires
+seat-of-requires c κs = search needs
+
+holder-requires : tie.Need-holder-requires
+holder-requires c κs = search needs
 
 whiteout-entry-requires : tie.Need-whiteout-entry-requires
 whiteout-entry-requires c κs = search needs
@@ -29,7 +32,8 @@ create-in-spec =
     tie.close
     (tie.spec
     place-numbered-requires
-    child-requires
+    seat-of-requires
+    holder-requires
     whiteout-entry-requires
     create-at-requires
     same-length

@@ -1,17 +1,12 @@
-use Rattle.calls.proofs.LoadingLaws.{refused-before, unchanged-before, upper-before, refused-by-load, unchanged-by-load, upper-by-load}
-use Rattle.calls.proofs.LinkLaws.{link-has-upper, link-answered, link-left, link-wrote}
 use borrow.Author.Needs.{needs}
 use Rattle.calls.proofs.link.link.Statement.{statement}
 use Rattle.calls.proofs.link.link.Tie as tie
 
-link-place-requires : tie.Need-link-place-requires
-link-place-requires c κs = search needs
+find-requires : tie.Need-find-requires
+find-requires c κs = search needs
 
-enum-known-a : tie.Need-enum-known-a
-enum-known-a c = search needs
-
-enum-told : tie.Need-enum-told
-enum-told c = search needs
+link-found-requires : tie.Need-link-found-requires
+link-found-requires c κs = search needs
 
 same-length : tie.Need-same-length
 same-length c = search needs
@@ -20,55 +15,9 @@ same-length-2 : tie.Need-same-length-2
 same-length-2 c = search needs
 
 returns : tie.Need-returns
-returns c = (search (refused-before, needs), search (unchanged-before, needs), search (upper-before, needs))
-
-load-at-requires : tie.Need-load-at-requires
-load-at-requires c κs = search needs
-
-enum-told-2 : tie.Need-enum-told-2
-enum-told-2 c = search needs
-
-enum-told-3 : tie.Need-enum-told-3
-enum-told-3 c = search needs
-
-same-length-3 : tie.Need-same-length-3
-same-length-3 c = search needs
-
-same-length-4 : tie.Need-same-length-4
-same-length-4 c = search needs
-
-returns-2 : tie.Need-returns-2
-returns-2 c = (search (refused-by-load, needs), search (unchanged-by-load, needs), search (upper-by-load, needs))
-
-link-in-requires : tie.Need-link-in-requires
-link-in-requires c κs = search (link-has-upper, needs)
-
-same-length-5 : tie.Need-same-length-5
-same-length-5 c = search needs
-
-same-length-6 : tie.Need-same-length-6
-same-length-6 c = search needs
-
-returns-3 : tie.Need-returns-3
-returns-3 c = (search (link-answered, needs), search (link-left, needs), search (link-wrote, needs))
+returns c = (search needs, search needs, search needs)
 
 pub link-spec : {M : Type 1} → statement M
 link-spec =
     tie.close
-    (tie.spec
-    link-place-requires
-    enum-known-a
-    enum-told
-    same-length
-    same-length-2
-    returns
-    load-at-requires
-    enum-told-2
-    enum-told-3
-    same-length-3
-    same-length-4
-    returns-2
-    link-in-requires
-    same-length-5
-    same-length-6
-    returns-3)
+    (tie.spec find-requires link-found-requires same-length same-length-2 returns)

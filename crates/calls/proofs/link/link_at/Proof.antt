@@ -28,8 +28,8 @@ prepare-requires c κs = search needs
 put-link-requires : tie.Need-put-link-requires
 put-link-requires c κs = search needs
 
-cast-t24 : tie.Need-cast-t24
-cast-t24 c = search needs
+cast-t25 : tie.Need-cast-t25
+cast-t25 c = search needs
 
 same-length-3 : tie.Need-same-length-3
 same-length-3 c = search needs
@@ -52,7 +52,7 @@ link-at-spec =
     returns
     prepare-requires
     put-link-requires
-    cast-t24
+    cast-t25
     same-length-3
     same-length-4
     returns-2)

@@ -3,14 +3,17 @@ use borrow.Author.Needs.{needs}
 use Rattle.calls.proofs.link.link_in.Statement.{statement}
 use Rattle.calls.proofs.link.link_in.Tie as tie
 
+source-place-requires : tie.Need-source-place-requires
+source-place-requires c κs = search needs
+
 place-numbered-requires : tie.Need-place-numbered-requires
 place-numbered-requires c κs = search needs
 
-place-numbered-requires-2 : tie.Need-place-numbered-requires-2
-place-numbered-requires-2 c κs = search needs
+seat-of-requires : tie.Need-seat-of-requires
+seat-of-requires c κs = search needs
 
-child-requires : tie.Need-child-requires
-child-requires c κs = search needs
+holder-requires : tie.Need-holder-requires
+holder-requires c κs = search needs
 
 whiteout-entry-requires : tie.Need-whiteout-entry-requires
 whiteout-entry-requires c κs = search needs
@@ -31,9 +34,10 @@ pub link-in-spec : {M : Type 1} → statement M
 link-in-spec =
     tie.close
     (tie.spec
+    source-place-requires
     place-numbered-requires
-    place-numbered-requires-2
-    child-requires
+    seat-of-requires
+    holder-requires
     whiteout-entry-requires
     link-at-requires
     same-length

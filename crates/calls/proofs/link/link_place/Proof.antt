@@ -20,9 +20,6 @@ returns-2 : tie.Need-returns-2
 unfolding linkBefore
 returns-2 c = search (tests, number-tests, needs) depth 12
 
-find-requires : tie.Need-find-requires
-find-requires c κs = search needs
-
 enum-known-f : tie.Need-enum-known-f
 enum-known-f c = search needs
 
@@ -33,8 +30,8 @@ returns-3 : tie.Need-returns-3
 unfolding linkBefore
 returns-3 c = search (tests, number-tests, needs) depth 12
 
-find-requires-2 : tie.Need-find-requires-2
-find-requires-2 c κs = search needs
+find-requires : tie.Need-find-requires
+find-requires c κs = search needs
 
 enum-known-g : tie.Need-enum-known-g
 enum-known-g c = search needs
@@ -65,11 +62,10 @@ link-place-spec =
     returns
     malformed-requires
     returns-2
-    find-requires
     enum-known-f
     enum-told
     returns-3
-    find-requires-2
+    find-requires
     enum-known-g
     enum-told-2
     returns-4

@@ -3,8 +3,11 @@ use borrow.Author.Needs.{needs}
 use Rattle.calls.proofs.lookup.count_lookup.Statement.{statement}
 use Rattle.calls.proofs.lookup.count_lookup.Tie as tie
 
-child-requires : tie.Need-child-requires
-child-requires c κs = search needs
+seat-of-requires : tie.Need-seat-of-requires
+seat-of-requires c κs = search needs
+
+holder-requires : tie.Need-holder-requires
+holder-requires c κs = search needs
 
 enum-known-f : tie.Need-enum-known-f
 enum-known-f c = search needs
@@ -36,8 +39,8 @@ counted-requires c κs = search needs
 put-node-requires : tie.Need-put-node-requires
 put-node-requires c κs = search needs
 
-cast-t18 : tie.Need-cast-t18
-cast-t18 c = search needs
+cast-t19 : tie.Need-cast-t19
+cast-t19 c = search needs
 
 same-length-3 : tie.Need-same-length-3
 same-length-3 c = search needs
@@ -49,7 +52,8 @@ pub count-lookup-spec : {M : Type 1} → statement M
 count-lookup-spec =
     tie.close
     (tie.spec
-    child-requires
+    seat-of-requires
+    holder-requires
     enum-known-f
     enum-told
     same-length
@@ -60,6 +64,6 @@ count-lookup-spec =
     returns-2
     counted-requires
     put-node-requires
-    cast-t18
+    cast-t19
     same-length-3
     returns-3)

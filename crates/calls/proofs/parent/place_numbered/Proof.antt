@@ -1,4 +1,4 @@
-use Rattle.calls.proofs.ParentLaws.{place-behind, place-there}
+use Rattle.calls.proofs.ParentLaws.{place-found}
 use borrow.Author.Needs.{needs}
 use Rattle.calls.proofs.parent.place_numbered.Statement.{statement}
 use Rattle.calls.proofs.parent.place_numbered.Tie as tie
@@ -6,21 +6,16 @@ use Rattle.calls.proofs.parent.place_numbered.Tie as tie
 find-requires : tie.Need-find-requires
 find-requires c κs = search needs
 
-enum-known-f : tie.Need-enum-known-f
-enum-known-f c = search needs
-
-enum-told : tie.Need-enum-told
-enum-told c = search needs
-
-count-requires : tie.Need-count-requires
-count-requires c κs = search needs
+place-of-requires : tie.Need-place-of-requires
+place-of-requires c κs = search needs
 
 returns : tie.Need-returns
-returns c = search (place-behind, needs)
-
-returns-2 : tie.Need-returns-2
-returns-2 c = search (place-there, needs)
+returns c = search (place-found, needs)
 
 pub place-numbered-spec : {M : Type 1} → statement M
 place-numbered-spec =
-    tie.close (tie.spec find-requires enum-known-f enum-told count-requires returns returns-2)
+    tie.close
+    (tie.spec
+    find-requires
+    place-of-requires
+    returns)

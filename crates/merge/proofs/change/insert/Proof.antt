@@ -1,4 +1,4 @@
-use Rattle.merge.proofs.ChangeLaws.{inserted}
+use Rattle.merge.proofs.ShiftLaws.{inserted-in-tail}
 use borrow.Author.Needs.{needs}
 use Rattle.merge.proofs.change.insert.Statement.{statement}
 use Rattle.merge.proofs.change.insert.Tie as tie
@@ -12,14 +12,20 @@ mul-a c = search needs
 add-a : tie.Need-add-a
 add-a c = search needs
 
-add-move-down : tie.Need-add-move-down
-add-move-down c = search needs
+sub-m : tie.Need-sub-m
+sub-m c = search needs
+
+mul-m : tie.Need-mul-m
+mul-m c = search needs
 
 sub-move-down : tie.Need-sub-move-down
 sub-move-down c = search needs
 
-mul-move-down : tie.Need-mul-move-down
-mul-move-down c = search needs
+part-move-down-start : tie.Need-part-move-down-start
+part-move-down-start c = search needs
+
+part-move-down-end : tie.Need-part-move-down-end
+part-move-down-end c = search needs
 
 move-down-requires : tie.Need-move-down-requires
 move-down-requires c κs = search needs
@@ -34,7 +40,7 @@ same-length : tie.Need-same-length
 same-length c = search needs
 
 returns : tie.Need-returns
-returns c = search (inserted, needs)
+returns c = search (inserted-in-tail, needs)
 
 pub insert-spec : {M : Type 1} → statement M
 insert-spec =
@@ -43,9 +49,11 @@ insert-spec =
     count-requires
     mul-a
     add-a
-    add-move-down
+    sub-m
+    mul-m
     sub-move-down
-    mul-move-down
+    part-move-down-start
+    part-move-down-end
     move-down-requires
     lay-node-requires
     put-head-requires

@@ -2,16 +2,17 @@ use Rattle.layers.specs.Bytes.{over, part}
 use lib.ListN.{length}
 use Prim.Native.Nat.{_+_, _-_, _≤_}
 use mathlib.Core.Path.{_≡_}
-use Rattle.layers.proofs.Moves.{moved-down, over-none, moved-all}
+use Rattle.layers.proofs.Moves.{over-none, moved-all}
+use Rattle.merge.proofs.ShiftLaws.{shifted-down}
 use borrow.Author.Needs.{needs}
 use Rattle.merge.proofs.change.move_down.Statement.{statement}
 use Rattle.merge.proofs.change.move_down.Tie as tie
 
 abbrev Inv-loop : tie.InvT-loop
-Inv-loop t₀ p q n i₀ t i = (i ≤ n) × (length t ≡ length t₀) × (t ≡ over t₀ (q + i) (part t₀ (p + i) (n - i)))
+Inv-loop t₀ n i₀ t i = (i ≤ n) × (length t ≡ length t₀) × (t ≡ over t₀ (52 + i) (part t₀ (0 + i) (n - i)))
 
 abbrev μ-loop : tie.MeasureT-loop
-μ-loop t₀ p q n i₀ t i = i
+μ-loop t₀ n i₀ t i = i
 
 loop-holds : tie.Need-loop-holds Inv-loop μ-loop
 loop-holds c = (search needs, search needs, search (over-none, needs))
@@ -19,14 +20,11 @@ loop-holds c = (search needs, search needs, search (over-none, needs))
 sub-i : tie.Need-sub-i Inv-loop μ-loop
 sub-i c = search needs
 
-add-t : tie.Need-add-t Inv-loop μ-loop
-add-t c = search needs
-
 slice-read-t : tie.Need-slice-read-t Inv-loop μ-loop
 slice-read-t c = search needs
 
-add-t-2 : tie.Need-add-t-2 Inv-loop μ-loop
-add-t-2 c = search needs
+add-t : tie.Need-add-t Inv-loop μ-loop
+add-t c = search needs
 
 slice-write-t : tie.Need-slice-write-t Inv-loop μ-loop
 slice-write-t c = search needs
@@ -35,7 +33,7 @@ loop-less : tie.Need-loop-less Inv-loop μ-loop
 loop-less c = search needs
 
 loop-again : tie.Need-loop-again Inv-loop μ-loop
-loop-again c = (search needs, search needs, search (moved-down, needs))
+loop-again c = (search needs, search needs, search (shifted-down, needs))
 
 same-length : tie.Need-same-length Inv-loop μ-loop
 same-length c = search needs
@@ -51,9 +49,8 @@ move-down-spec =
     μ-loop
     loop-holds
     sub-i
-    add-t
     slice-read-t
-    add-t-2
+    add-t
     slice-write-t
     loop-less
     loop-again

@@ -1,31 +1,28 @@
-use lib.Seq.{paste-zero}
-use Rattle.layers.specs.Bytes.{part}
 use lib.Seq.{paste}
+use Rattle.layers.specs.Bytes.{part}
 use lib.ListN.{length}
 use Prim.Native.Nat.{_-_, _≤_}
 use mathlib.Core.Path.{_≡_}
-use Rattle.layers.proofs.Moves.{moved-up, moved-up-all}
+use Rattle.layers.proofs.Moves.{moved-up-all}
+use Rattle.merge.proofs.ShiftLaws.{shifted-up}
 use borrow.Author.Needs.{needs}
 use Rattle.merge.proofs.change.move_up.Statement.{statement}
 use Rattle.merge.proofs.change.move_up.Tie as tie
 
 abbrev Inv-loop : tie.InvT-loop
-Inv-loop t₀ p q n i₀ t i = (i ≤ n) × (length t ≡ length t₀) × (t ≡ paste t₀ p (part t₀ q n) i)
+Inv-loop t₀ n i₀ t i = (i ≤ n) × (length t ≡ length t₀) × (t ≡ paste t₀ 0 (part t₀ 52 n) i)
 
 abbrev μ-loop : tie.MeasureT-loop
-μ-loop t₀ p q n i₀ t i = n - i
+μ-loop t₀ n i₀ t i = n - i
 
 loop-holds : tie.Need-loop-holds Inv-loop μ-loop
-loop-holds c = (search needs, search needs, search (paste-zero, needs))
+loop-holds c = (search needs, search needs, search needs)
 
 add-t : tie.Need-add-t Inv-loop μ-loop
 add-t c = search needs
 
 slice-read-t : tie.Need-slice-read-t Inv-loop μ-loop
 slice-read-t c = search needs
-
-add-t-2 : tie.Need-add-t-2 Inv-loop μ-loop
-add-t-2 c = search needs
 
 slice-write-t : tie.Need-slice-write-t Inv-loop μ-loop
 slice-write-t c = search needs
@@ -37,7 +34,7 @@ loop-less : tie.Need-loop-less Inv-loop μ-loop
 loop-less c = search needs
 
 loop-again : tie.Need-loop-again Inv-loop μ-loop
-loop-again c = (search needs, search needs, search (moved-up, needs))
+loop-again c = (search needs, search needs, search (shifted-up, needs))
 
 same-length : tie.Need-same-length Inv-loop μ-loop
 same-length c = search needs
@@ -54,7 +51,6 @@ move-up-spec =
     loop-holds
     add-t
     slice-read-t
-    add-t-2
     slice-write-t
     add-i
     loop-less

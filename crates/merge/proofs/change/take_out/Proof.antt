@@ -1,4 +1,5 @@
-use Rattle.merge.proofs.ChangeLaws.{not-taken, taken}
+use Rattle.merge.proofs.ChangeLaws.{not-taken}
+use Rattle.merge.proofs.ShiftLaws.{taken-in-tail}
 use borrow.Author.Needs.{needs}
 use Rattle.merge.proofs.change.take_out.Statement.{statement}
 use Rattle.merge.proofs.change.take_out.Tie as tie
@@ -33,8 +34,14 @@ sub-n-2 c = search needs
 mul-n : tie.Need-mul-n
 mul-n c = search needs
 
-add-move-up : tie.Need-add-move-up
-add-move-up c = search needs
+sub-move-up : tie.Need-sub-move-up
+sub-move-up c = search needs
+
+part-move-up-start : tie.Need-part-move-up-start
+part-move-up-start c = search needs
+
+part-move-up-end : tie.Need-part-move-up-end
+part-move-up-end c = search needs
 
 move-up-requires : tie.Need-move-up-requires
 move-up-requires c κs = search needs
@@ -55,7 +62,7 @@ same-length-2 : tie.Need-same-length-2
 same-length-2 c = search needs
 
 returns-2 : tie.Need-returns-2
-returns-2 c = search (taken, needs)
+returns-2 c = search (taken-in-tail, needs)
 
 pub take-out-spec : {M : Type 1} → statement M
 take-out-spec =
@@ -71,7 +78,9 @@ take-out-spec =
     sub-n
     sub-n-2
     mul-n
-    add-move-up
+    sub-move-up
+    part-move-up-start
+    part-move-up-end
     move-up-requires
     add-lay
     slice-aggregate-lay

@@ -6,6 +6,9 @@ use Rattle.merge.proofs.state.order_at.Tie as tie
 parent-in-requires : tie.Need-parent-in-requires
 parent-in-requires c κs = search needs
 
+wide-requires : tie.Need-wide-requires
+wide-requires c κs = search needs
+
 returns : tie.Need-returns
 returns c = search (order-parent-before, order-parent-after, order-by-name, needs)
 
@@ -21,4 +24,4 @@ returns-3 c = search (order-parent-before, order-parent-after, order-by-name, ne
 pub order-at-spec : {M : Type 1} → statement M
 order-at-spec =
     tie.close
-    (tie.spec parent-in-requires returns returns-2 order-named-requires returns-3)
+    (tie.spec parent-in-requires wide-requires returns returns-2 order-named-requires returns-3)

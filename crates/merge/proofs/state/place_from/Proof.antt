@@ -12,16 +12,19 @@ use Rattle.merge.proofs.state.place_from.Statement.{statement}
 use Rattle.merge.proofs.state.place_from.Tie as tie
 
 abbrev Inv-loop : tie.InvT-loop
-Inv-loop s p x k c w j₀ j = (j ≤ c) × (spotFrom keyOf j (p ∷ x) (drop j (nodesOf s)) ≡ spotFrom keyOf 0 (p ∷ x) (nodesOf s))
+Inv-loop s p x k c w q j₀ j = (j ≤ c) × (spotFrom keyOf j (q ∷ x) (drop j (nodesOf s)) ≡ spotFrom keyOf 0 (p ∷ x) (nodesOf s))
 
 abbrev μ-loop : tie.MeasureT-loop
-μ-loop s p x k c w j₀ j = c - j
+μ-loop s p x k c w q j₀ j = c - j
 
 count-requires : tie.Need-count-requires Inv-loop μ-loop
 count-requires c κs = search needs
 
 lead-of-requires : tie.Need-lead-of-requires Inv-loop μ-loop
 lead-of-requires c κs = search needs
+
+wide-requires : tie.Need-wide-requires Inv-loop μ-loop
+wide-requires c κs = search needs
 
 loop-holds : tie.Need-loop-holds Inv-loop μ-loop
 loop-holds c = (search (passed-within, needs), search (passed-start, needs))
@@ -64,6 +67,7 @@ place-from-spec =
     μ-loop
     count-requires
     lead-of-requires
+    wide-requires
     loop-holds
     order-at-requires
     enum-told
