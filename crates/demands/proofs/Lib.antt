@@ -17,3 +17,9 @@ pub mod InvariantUpper
 pub mod InvariantFresh
 pub mod StateDetermined
 pub mod RootLaws
+pub mod SeatOrder
+pub mod RefusalLaws
+pub mod ReadLaws
+pub mod ValidDropped
+pub mod ValidAdded
+pub mod PlacesCounted
