@@ -279,7 +279,7 @@ module _ (u l : List ℕ) (p : ℕ) where
 
 -- ---- the load of a node
 
-suffices-both : (s : List ℕ) (k : ℕ) → suffices s k ≡ true → (k ≤ roomOf s) × (k ≤ numbersLeft s)
+pub suffices-both : (s : List ℕ) (k : ℕ) → suffices s k ≡ true → (k ≤ roomOf s) × (k ≤ numbersLeft s)
 unfolding suffices
 suffices-both s k h = go (leb k (roomOf s)) refl h
   where

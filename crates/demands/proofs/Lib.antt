@@ -23,3 +23,15 @@ pub mod ReadLaws
 pub mod ValidDropped
 pub mod ValidAdded
 pub mod PlacesCounted
+pub mod UpperFirst
+pub mod StackSteps
+pub mod MadeDirectory
+pub mod RecordFits
+pub mod CopiedFile
+pub mod FilledNew
+pub mod LinkedNew
+pub mod FilledOver
+pub mod UpperBytes
+pub mod MadePath
+pub mod CopyUpKeeps
+pub mod SequenceLaws

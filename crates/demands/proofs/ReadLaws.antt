@@ -68,7 +68,7 @@ module _ (u l s : List ℕ) (v : ℕ) (h : importSpec u l s .answer ≡ Fine v) 
   imported : importSpec u l s .state ≡ loadBytes u l (rooted u l blank) 0
   imported = rw all-passed refl
 
-  import-sound : SoundLayers u l
+  pub import-sound : SoundLayers u l
   unfolding importTests
   import-sound = record { tables = go }
     where
@@ -97,7 +97,7 @@ module _ (u l s : List ℕ) (v : ℕ) (h : importSpec u l s .answer ≡ Fine v) 
       go (suc (suc (suc zero))) e = sound-table (tableOf u l 3) (last .0) e
       go (suc (suc (suc (suc k)))) e = absurd (no-table u l (suc (suc (suc (suc k)))) (omega arith) e)
 
-  import-good : Good u l (importSpec u l s .state)
+  pub import-good : Good u l (importSpec u l s .state)
   unfolding rooted rootState blank
   import-good = subst (Good u l) (sym imported) (load-keeps u l (rooted u l blank) (root-good u l 13324 (omega arith)) (valid-children u l (import-sound .tables)) 0)
 
@@ -142,7 +142,7 @@ module _ (u l s : List ℕ) (g : Good u l s) (v : SoundLayers u l) where
       go true = forget-keeps u l s x m g
       go false = g
 
-  read-good : (c : Read) → Good u l (afterRead u l c s)
+  pub read-good : (c : Read) → Good u l (afterRead u l c s)
   unfolding afterRead
   read-good (lookup p x) = lookup-good p x
   read-good (count x) = count-good x
@@ -156,7 +156,7 @@ reads-good u l v (c ∷ cs) s g = reads-good u l v cs (afterRead u l c s) (read-
 
 -- ---- the demand
 
-as-afresh : (u l s : List ℕ) → SoundLayers u l → Good u l s → AsAfresh u l s
+pub as-afresh : (u l s : List ℕ) → SoundLayers u l → Good u l s → AsAfresh u l s
 as-afresh u l s v g =
     record {
       stacks = good-fresh u l s g;

@@ -2,3 +2,4 @@
 pub mod Invariant
 pub mod Refusals
 pub mod Reads
+pub mod Sequences
