@@ -347,7 +347,7 @@ module _ (n : Node) (p : Pair) where
   alone-past zero l = absurd (omega arith)
   alone-past (suc i) l = getD-all 3 i noPair
 
-  alone-tidy : Tidy n → Tidy (alone n p)
+  pub alone-tidy : Tidy n → Tidy (alone n p)
   unfolding withStack
   alone-tidy t =
       record {

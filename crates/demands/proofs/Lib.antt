@@ -35,3 +35,5 @@ pub mod UpperBytes
 pub mod MadePath
 pub mod CopyUpKeeps
 pub mod SequenceLaws
+pub mod FilledInPlace
+pub mod CreationKeeps
