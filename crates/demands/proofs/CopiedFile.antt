@@ -7,11 +7,11 @@ use native.Mathlib.Nat.{zero-add}
 use mathlib.Core.Bool.{Bool, true, false, not, cond}
 use mathlib.Core.List.{List, [], _∷_, map}
 use lib.Dec.{eqb}
-use lib.ListN.{length, take, getD, List·getD-eq-default}
+use lib.ListN.{length, take, getD, set, List·getD-eq-default}
 use borrow.Author.Tests.{eqb-true, eqb-false, ne-eqb, not-false}
 use Rattle.layers.specs.Names.{Name}
-use Rattle.layers.specs.Items.{recordsOf, entriesOf, recordAt, entryAt, freeEntry, FitsTail}
-use Rattle.layers.specs.Search.{one, noRecord, names, searchOf, freeEntryPlace, freeRecordPlace}
+use Rattle.layers.specs.Items.{recordsOf, entriesOf, recordAt, entryAt, freeEntry, FitsHead, FitsTail}
+use Rattle.layers.specs.Search.{one, noRecord, names, searchOf, freeEntryPlace, freeRecordPlace, usedEntries, usedRecords}
 use Rattle.layers.specs.Change.{entryNaming, numbered, addedEntry, addedRecord, AddEntry, AddRecord, entryAdded, recordAdded}
 use Rattle.layers.specs.Rules.{Present, WellFormed, GoodRecord, Valid}
 use Rattle.layers.specs.declared.items.Record.{Record}
@@ -46,6 +46,7 @@ use Rattle.merge.proofs.StateLaws.{length-nodes}
 use Rattle.merge.proofs.TableLaws.{table-upper}
 use Rattle.merge.proofs.ClassLaws.{seen-there, directory-walked, walked-long}
 use Rattle.merge.proofs.NamedLaws.{names-used}
+use Rattle.merge.proofs.NodesAfter.{length-put, next-put, nodes-put}
 use Rattle.calls.specs.Parents.{placeOf, topOf, isWhite, isDirectoryNode}
 use Rattle.calls.specs.Upper.{up, parentPlace, inUpper, recordNumber, newRecord, addNew, topRecord, fileLike, copiedFile}
 use Rattle.demands.specs.Invariant.{nodeIn, nodeBy, Resident, Good}
@@ -60,6 +61,7 @@ use Rattle.demands.proofs.InvariantMoves.{Step}
 use Rattle.demands.proofs.InvariantChange.{step-good}
 use Rattle.demands.proofs.InvariantUpper.{change-step}
 use Rattle.demands.proofs.ValidAdded.{valid-made}
+use Rattle.demands.proofs.PlacesCounted.{added-record-entries, added-record-records, added-entry-records, added-entry-entries}
 
 -- ---- the topmost record of a stack
 
@@ -296,6 +298,30 @@ module _ (t : List ℕ) (v : Valid t) (d : ℕ) (x : Name) (r : Record) (c : Cop
   copy-file : isWalked copy i ≡ false
   unfolding fileLike
   copy-file = directory-walked copy 0 i (copy-valid .size) ∙ (ap isDirectory copy-here ∙ c .no-directory)
+
+  copy-kept : (q : ℕ) → Present (recordsOf t) q → isWalked copy q ≡ isWalked t q
+  copy-kept q h = scan-agree copy t q (copy-valid .size ∙ sym (v .size)) (record-kept q (there-other t v i hr q h)) .0
+
+  copy-still : (q : ℕ) → isWalked t q ≡ true → isWalked copy q ≡ true
+  copy-still q h = copy-kept q (directory-present t v q (eqb-true (recordAt (recordsOf t) q .kind) 4 (sym (directory-walked t 0 q (v .size)) ∙ h))) ∙ h
+
+  copy-head : FitsHead (fileLike r)
+  unfolding fileLike
+  copy-head = record { permissions-fit = (let y : r .permissions ≤ 4095 = c .good 1 (omega arith) .permissions-fit in omega arith); links-fit = omega arith }
+
+  copy-long : length (addedRecord t (fileLike r)) ≡ 8192
+  copy-long = length-added-record t (fileLike r) (v .size) ∙ v .size
+
+  copy-used-records : usedRecords (recordsOf copy) ≡ suc (usedRecords (recordsOf t))
+  copy-used-records = added-entry-records (addedRecord t (fileLike r)) (entryNaming d x i) (naming-name d x i) copy-long ∙ added-record-records t (fileLike r) (v .size) copy-head (like-tail r tail) i hr
+
+  copy-used-entries : usedEntries (entriesOf copy) ≡ suc (usedEntries (entriesOf t))
+  unfolding entryNaming
+  copy-used-entries =
+      added-entry-entries (addedRecord t (fileLike r)) (entryNaming d x i) (naming-name d x i) copy-long
+      (λ z. let e : _≡_ {A = ℕ} 0 4 = ap (λ (q : ℕ). recordAt (recordsOf t) q .kind) (sym z) ∙ parent-directory in omega arith) j
+      (ap (λ (es : List Entry). freeEntryPlace es) (record-new .entries) ∙ he)
+      ∙ ap suc (added-record-entries t (fileLike r) (v .size) copy-head (like-tail r tail))
 
   module _ (l : List ℕ) where
     in-copy : tableOf copy l 0 ≡ copy
@@ -566,3 +592,27 @@ module _ (t l s : List ℕ) (v : Valid t) (g : Good t l s) (k : ℕ) (b : k < co
             subst (λ (y : List ℕ). Good (copiedFile l k (up t s) .table) l y) (sym copied-state)
             (subst (λ (y : List ℕ). Good y l (putBytes s k a)) (sym copied-table)
             (step-good t w l s g k b a (alone-tidy n (pair 0 i) (tidy-place t l (nodesOf s) (nextOf s) (g .nodes) k)) other copied-step))
+
+        -- the node at place `k` changes alone, and has the copy alone
+        pub copied-nodes : nodesOf (copiedFile l k (up t s) .state) ≡ set (nodesOf s) k (alone (nodeAt (nodesOf s) k) (pair 0 i))
+        copied-nodes = ap nodesOf copied-state ∙ nodes-put s k a (alone-tidy n (pair 0 i) (tidy-place t l (nodesOf s) (nextOf s) (g .nodes) k) .fits)
+
+        pub copied-length : length (copiedFile l k (up t s) .state) ≡ length s
+        copied-length = ap length copied-state ∙ length-put s k a (alone-tidy n (pair 0 i) (tidy-place t l (nodesOf s) (nextOf s) (g .nodes) k) .fits)
+
+        pub copied-next : nextOf (copiedFile l k (up t s) .state) ≡ nextOf s
+        copied-next = ap nextOf copied-state ∙ next-put s k a (alone-tidy n (pair 0 i) (tidy-place t l (nodesOf s) (nextOf s) (g .nodes) k) .fits)
+
+        -- the copy is no directory, and every directory is one
+        pub copied-plain : isWalked (copiedFile l k (up t s) .table) i ≡ false
+        copied-plain = rw copied-table (copy-file t v d (nodeName n) (topRecord t l n) copyable tail i j hr he)
+
+        pub copied-still : (q : ℕ) → isWalked t q ≡ true → isWalked (copiedFile l k (up t s) .table) q ≡ true
+        copied-still q h = rw copied-table (copy-still t v d (nodeName n) (topRecord t l n) copyable tail i j hr he q h)
+
+        -- one record and one entry more are used
+        pub copied-records : usedRecords (recordsOf (copiedFile l k (up t s) .table)) ≡ suc (usedRecords (recordsOf t))
+        copied-records = ap (λ (y : List ℕ). usedRecords (recordsOf y)) copied-table ∙ copy-used-records t v d (nodeName n) (topRecord t l n) copyable tail i j hr he
+
+        pub copied-entries : usedEntries (entriesOf (copiedFile l k (up t s) .table)) ≡ suc (usedEntries (entriesOf t))
+        copied-entries = ap (λ (y : List ℕ). usedEntries (entriesOf y)) copied-table ∙ copy-used-entries t v d (nodeName n) (topRecord t l n) copyable tail i j hr he

@@ -73,7 +73,7 @@ missing-fewer s (suc m) k = go (inUpper (nodeAt (nodesOf s) k)) (missing-fewer s
     go true h = omega arith
     go false h = omega arith
 
-missing-parent : (s : List ℕ) (m k : ℕ) → inUpper (nodeAt (nodesOf s) k) ≡ false → length (missingFrom (suc m) s k) ≡ suc (length (missingFrom m s (parentPlace s k)))
+pub missing-parent : (s : List ℕ) (m k : ℕ) → inUpper (nodeAt (nodesOf s) k) ≡ false → length (missingFrom (suc m) s k) ≡ suc (length (missingFrom m s (parentPlace s k)))
 unfolding missingFrom
 missing-parent s m k e = rw e refl
 
@@ -104,7 +104,7 @@ module _ (t l s : List ℕ) (v : Valid t) (sound : SoundLayers t l) (g : Good t 
         record { good = p .good; sound = p .sound; bytes = p .bytes upper-bytes lower-bytes }
 
     module _ (white : isWhite (nodeAt (nodesOf s) k) ≡ false) (low : inUpper (nodeAt (nodesOf s) k) ≡ false) (file : isDirectoryNode t l (nodeAt (nodesOf s) k) ≡ false) where
-      other : nodeAt (nodesOf s) k .number ≢ 1
+      pub other : nodeAt (nodesOf s) k .number ≢ 1
       other z = no-true (sym low ∙ root-upper t l s g (v .size) k b z)
 
       abbrev u : Up
@@ -113,51 +113,51 @@ module _ (t l s : List ℕ) (v : Valid t) (sound : SoundLayers t l) (g : Good t 
       fewer : length (missingFrom 17 s k) ≡ suc (length (missingFrom 16 s (parentPlace s k)))
       fewer = missing-parent s 16 k low
 
-      path : MadePath t l s (parentPlace s k) (length (missingFrom 16 s (parentPlace s k))) u
+      pub path : MadePath t l s (parentPlace s k) (length (missingFrom 16 s (parentPlace s k))) u
       path =
           let f : length (missingFrom 17 s k) ≡ suc (length (missingFrom 16 s (parentPlace s k))) = fewer in
           made-path t l s v sound g 16 (parentPlace s k) (parent-inside t l s g k b other) (parent-walked t l s g k b other)
           (near-directory t l s g sound (parentPlace s k) (parent-inside t l s g k b other) (parent-walked t l s g k b other)) (omega arith) (omega arith)
 
-      same : nodeAt (nodesOf (u .state)) k ≡ nodeAt (nodesOf s) k
+      pub same : nodeAt (nodesOf (u .state)) k ≡ nodeAt (nodesOf s) k
       same = path .later-same k (parent-earlier t l s g k b other)
 
       top-lower : topOf (nodeAt (nodesOf s) k) .layer ≢ 0
       unfolding inUpper
       top-lower = eqb-false (topOf (nodeAt (nodesOf s) k) .layer) 0 low
 
-      b-now : k < countOf (u .state)
+      pub b-now : k < countOf (u .state)
       b-now = rw (path .count-same) b
 
-      other-now : nodeAt (nodesOf (u .state)) k .number ≢ 1
+      pub other-now : nodeAt (nodesOf (u .state)) k .number ≢ 1
       other-now = rw same other
 
-      white-now : isWhite (nodeAt (nodesOf (u .state)) k) ≡ false
+      pub white-now : isWhite (nodeAt (nodesOf (u .state)) k) ≡ false
       white-now = ap isWhite same ∙ white
 
-      file-now : isDirectoryNode (u .table) l (nodeAt (nodesOf (u .state)) k) ≡ false
+      pub file-now : isDirectoryNode (u .table) l (nodeAt (nodesOf (u .state)) k) ≡ false
       file-now = ap (isDirectoryNode (u .table) l) same ∙ (directory-same t (u .table) l (nodeAt (nodesOf s) k) top-lower ∙ file)
 
-      low-now : inUpper (nodeAt (nodesOf (u .state)) k) ≡ false
+      pub low-now : inUpper (nodeAt (nodesOf (u .state)) k) ≡ false
       low-now = ap inUpper same ∙ low
 
-      high-now : inUpper (nodeAt (nodesOf (u .state)) (parentPlace (u .state) k)) ≡ true
+      pub high-now : inUpper (nodeAt (nodesOf (u .state)) (parentPlace (u .state) k)) ≡ true
       high-now =
           ap (λ (j : ℕ). inUpper (nodeAt (nodesOf (u .state)) j)) (ap (λ (n : Node). placeNumbered (u .state) (n .parent)) same ∙ place-same s (u .state) (path .count-same) (nodeAt (nodesOf s) k .parent) (path .found-same (nodeAt (nodesOf s) k .parent)))
           ∙ path .upper
 
       -- the file's record is a lower one, as it was
-      tail-now : FitsTail (topRecord (u .table) l (nodeAt (nodesOf (u .state)) k))
+      pub tail-now : FitsTail (topRecord (u .table) l (nodeAt (nodesOf (u .state)) k))
       tail-now =
           subst (λ (n : Node). FitsTail (topRecord (u .table) l n)) (sym same)
           (subst (λ (m : List ℕ). FitsTail (recordAt (recordsOf m) (topOf (nodeAt (nodesOf s) k) .number))) (lower-table t (u .table) l (topOf (nodeAt (nodesOf s) k) .layer) top-lower) (top-fits t l upper-bytes lower-bytes (nodeAt (nodesOf s) k)))
 
-      free : (i : ℕ) × (freeRecordPlace (recordsOf (u .table)) ≡ At i)
+      pub free : (i : ℕ) × (freeRecordPlace (recordsOf (u .table)) ≡ At i)
       free =
           let f : length (missingFrom 17 s k) ≡ suc (length (missingFrom 16 s (parentPlace s k))) = fewer in
           record-place-free (u .table) (let e : usedRecords (recordsOf (u .table)) ≡ usedRecords (recordsOf t) + length (missingFrom 16 s (parentPlace s k)) = path .records in omega arith)
 
-      room : (j : ℕ) × (freeEntryPlace (entriesOf (u .table)) ≡ At j)
+      pub room : (j : ℕ) × (freeEntryPlace (entriesOf (u .table)) ≡ At j)
       room =
           let f : length (missingFrom 17 s k) ≡ suc (length (missingFrom 16 s (parentPlace s k))) = fewer in
           entry-place-free (u .table) (let e : usedEntries (entriesOf (u .table)) ≡ usedEntries (entriesOf t) + length (missingFrom 16 s (parentPlace s k)) = path .entries in omega arith)
@@ -175,7 +175,7 @@ module _ (t l s : List ℕ) (v : Valid t) (sound : SoundLayers t l) (g : Good t 
           (file-like-bytes (topRecord (u .table) l (nodeAt (nodesOf (u .state)) k))
           (kind-byte (tableOf (u .table) l (topOf (nodeAt (nodesOf (u .state)) k) .layer)) (bytes-table (u .table) l now-bytes lower-bytes (topOf (nodeAt (nodesOf (u .state)) k) .layer)) (topOf (nodeAt (nodesOf (u .state)) k) .number)))
 
-      file-keeps : Keeps l (copiedFile l k (up (u .table) (u .state)))
+      pub file-keeps : Keeps l (copiedFile l k (up (u .table) (u .state)))
       file-keeps =
           record {
             good = copied-good (u .table) l (u .state) (path .valid) (path .good) k b-now other-now white-now file-now low-now high-now (path .sound) tail-now (free .0) (room .0) (free .1) (room .1);

@@ -17,7 +17,10 @@ use Rattle.layers.specs.Items.{recordsOf, entriesOf, entryAt, freeRecord, freeE
 use Rattle.layers.specs.Search.{one, isFree, naming, names, searchOf, freeEntryPlace, freeRecordPlace, usedEntries, usedRecords}
 use Rattle.layers.specs.Change.{numbered, recordLeft, droppedEntry}
 use Rattle.layers.specs.Rules.{Used, WellFormed, GoodRecord, Valid}
+use Rattle.layers.specs.Kinds.{kindNumber}
 use Rattle.layers.specs.declared.items.Record.{Record}
+use Rattle.layers.specs.declared.kinds.Kind.{Kind}
+use Rattle.layers.specs.declared.kinds.Kind.the-variants.{Fifo, Character, Directory, Block, Regular, Symlink, Socket, NoKind}
 use Rattle.layers.specs.declared.search.Found.{Found}
 use Rattle.layers.specs.declared.search.Found.the-variants.{At, Missing}
 use Rattle.layers.proofs.EveryLaws.{no-true}
@@ -59,6 +62,7 @@ use Rattle.calls.specs.Creation.{parentNode, creationBefore, creationTests, fil
 use Rattle.calls.specs.declared.refusal.Refusal.the-variants.{Eperm, Enoent, Enotdir, Einval, Enfile, Enospc, Erofs, Enametoolong}
 use Rattle.demands.specs.Invariant.{nodeIn, nodeBy, Resident, Good}
 use Rattle.demands.specs.Reads.{SoundLayers}
+use Rattle.demands.specs.Sequences.{Creatable}
 use Rattle.demands.proofs.InvariantNodes.{by-found, found-below, found-number, place-by, place-resident}
 use Rattle.demands.proofs.InvariantKept.{marked-is, tidy-place}
 use Rattle.demands.proofs.InvariantLoad.{Loaded, load-keeps, load-complete}
@@ -72,12 +76,25 @@ use Rattle.demands.proofs.CopyUpKeeps.{Keeps, upper-valid, missing-fewe
 use Rattle.demands.proofs.FilledNew.{filled-good, filled-sound}
 use Rattle.demands.proofs.FilledOver.{held-place, filled-over-good, filled-over-sound}
 
--- the record that a creation makes keeps the rules at every place, and is no directory
-pub record Creatable (r : Record) : Type 0 where
-  pub good : (i : ℕ) → 1 ≤ i → i ≤ 128 → GoodRecord i (numbered i r)
-  pub tail : FitsTail r
-  pub bytes : FitsBytes r
-  pub no-directory : r .kind ≢ 4
+-- ---- a new record's fields of one byte
+
+kind-below : (k : Kind) → kindNumber k < 256
+kind-below Fifo = omega arith
+kind-below Character = omega arith
+kind-below Directory = omega arith
+kind-below Block = omega arith
+kind-below Regular = omega arith
+kind-below Symlink = omega arith
+kind-below Socket = omega arith
+kind-below NoKind = omega arith
+
+creatable-bytes : (r : Record) → Creatable r → FitsBytes r
+creatable-bytes r c =
+    let g : GoodRecord 1 (numbered 1 r) = c .good 1 (omega arith) (omega arith) in
+    let k : (k : Kind) × (k ≡ NoKind → ⊥) × (r .kind ≡ kindNumber k) = g .kind-is (λ z. omega arith) in
+    let o : r .opaque ≤ 1 = g .opaque-is in
+    let m : r .mark ≡ 0 = g .mark-zero in
+    record { kind-fits = subst (λ (n : ℕ). n < 256) (sym (k .2)) (kind-below (k .0)); opaque-fits = omega arith; mark-fits = omega arith }
 
 -- ---- what a made path leaves beside the stacks
 
@@ -234,7 +251,7 @@ module _ (t l s : List ℕ) (v : Valid t) (sound : SoundLayers t l) (g : Good t 
     new-bytes : (z : Seat) → AllBytes (filled k z x r u .table)
     unfolding filled
     new-bytes z =
-        add-new-bytes (u .table) (path .bytes upper-bytes lower-bytes) (topOf (nodeAt (nodesOf (u .state)) k) .number) (walked-byte (u .table) (path .valid) (topOf (nodeAt (nodesOf (u .state)) k) .number) walked-now) x name-bytes r (c .bytes)
+        add-new-bytes (u .table) (path .bytes upper-bytes lower-bytes) (topOf (nodeAt (nodesOf (u .state)) k) .number) (walked-byte (u .table) (path .valid) (topOf (nodeAt (nodesOf (u .state)) k) .number) walked-now) x name-bytes r (creatable-bytes r c)
 
     seat-now : seatOf (nodesOf (u .state)) (nodeAt (nodesOf (u .state)) k .number) x ≡ seatOf (nodesOf s) (nodeAt (nodesOf s) k .number) x
     seat-now =
@@ -475,7 +492,7 @@ module _ (t l s : List ℕ) (v : Valid t) (sound : SoundLayers t l) (g : Good t 
         bytes-after : AllBytes (filled k (Held j) x r bare .table)
         unfolding filled withoutWhiteout
         bytes-after =
-            add-new-bytes (droppedEntry t e) (dropped-bytes t upper-bytes e) (topOf (nodeAt (nodesOf (bare .state)) k) .number) (subst (λ (m : Node). topOf m .number < 256) (sym same-above) (walked-byte t v d upper-walked)) x name-bytes r (c .bytes)
+            add-new-bytes (droppedEntry t e) (dropped-bytes t upper-bytes e) (topOf (nodeAt (nodesOf (bare .state)) k) .number) (subst (λ (m : Node). topOf m .number < 256) (sym same-above) (walked-byte t v d upper-walked)) x name-bytes r (creatable-bytes r c)
 
         written : Good (filled k (Held j) x r bare .table) l (filled k (Held j) x r bare .state) × SoundLayers (filled k (Held j) x r bare .table) l
         written = in-place t l s v g sound k b parent-upper upper-walked j bj x key white e at (free-after .0) (open-after .0) (free-after .1) (open-after .1) r good-after (c .tail) (c .no-directory) live

@@ -34,6 +34,10 @@ pub mod FilledOver
 pub mod UpperBytes
 pub mod MadePath
 pub mod CopyUpKeeps
-pub mod SequenceLaws
+pub mod MissingEither
+pub mod LinkKeeps
 pub mod FilledInPlace
 pub mod CreationKeeps
+pub mod CreationInPlace
+pub mod SequenceLaws
+pub mod CreatableRecords

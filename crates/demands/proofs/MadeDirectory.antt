@@ -48,7 +48,7 @@ use Rattle.merge.proofs.ClassLaws.{walked-long, directory-walked, plain-walked,
 use Rattle.merge.proofs.MergeLaws.{Each}
 use Rattle.merge.proofs.MethodLaws.{topped-stack, topped-unused}
 use Rattle.merge.proofs.NewNodes.{entry-name-length}
-use Rattle.merge.proofs.NodesAfter.{nodes-put}
+use Rattle.merge.proofs.NodesAfter.{length-put, next-put, nodes-put}
 use Rattle.merge.proofs.StackLaws.{length-stack}
 use Rattle.merge.proofs.StateLaws.{length-nodes}
 use Rattle.calls.specs.Parents.{placeOf, topOf}
@@ -238,6 +238,9 @@ module _ (t : List ℕ) (v : Valid t) (d : ℕ) (walked : isWalked t d ≡ true)
   -- a directory that was there is there
   still-directory : (c : ℕ) → isWalked t c ≡ true → isWalked made c ≡ true
   still-directory c w = sym (scan-agree t made c (v .size ∙ sym made-long) (sym (record-other c (free-other t v i free c (directory-present t v c (walked-kind t v c w))))) .0) ∙ w
+
+  kept-directory : (c : ℕ) → Present (recordsOf t) c → isWalked made c ≡ isWalked t c
+  kept-directory c h = sym (scan-agree t made c (v .size ∙ sym made-long) (sym (record-other c (free-other t v i free c h))) .0)
 
   d-scan : (isWalked t d ≡ isWalked made d) × (endsScan t d ≡ endsScan made d)
   d-scan = scan-agree t made d (v .size ∙ sym made-long) (sym (record-other d d-other))
@@ -609,6 +612,16 @@ module _ (t l s : List ℕ) (g : Good t l s) (k : ℕ) (b : k < countOf s) (othe
 
         pub made-directory-still : (c : ℕ) → isWalked t c ≡ true → isWalked (madeDirectory l k (up t s) .table) c ≡ true
         made-directory-still c h = rw table-is (still-directory t v d walked-d x (name-good .0) (name-good .1) absent (topRecord t l n) permitted i free j room c h)
+
+        -- and every record that was there is the one it was
+        pub made-directory-kept : (c : ℕ) → Present (recordsOf t) c → isWalked (madeDirectory l k (up t s) .table) c ≡ isWalked t c
+        made-directory-kept c h = rw table-is (kept-directory t v d walked-d x (name-good .0) (name-good .1) absent (topRecord t l n) permitted i free j room c h)
+
+        pub made-directory-length : length (madeDirectory l k (up t s) .state) ≡ length s
+        made-directory-length = ap length state-is ∙ length-put s k a (tidy-a .fits)
+
+        pub made-directory-next : nextOf (madeDirectory l k (up t s) .state) ≡ nextOf s
+        made-directory-next = ap nextOf state-is ∙ next-put s k a (tidy-a .fits)
 
         -- one record and one entry more are used
         pub made-directory-records : usedRecords (recordsOf (madeDirectory l k (up t s) .table)) ≡ suc (usedRecords (recordsOf t))

@@ -7,13 +7,14 @@ use native.Mathlib.Nat.{add-zero}
 use native.Mathlib.Decide.{ℕ-discrete}
 use mathlib.Core.Bool.{Bool, true, false, cond}
 use mathlib.Core.List.{List, [], _∷_}
+use lib.Dec.{eqb}
 use lib.ListN.{length, set, length-set}
 use lib.Seq.{getD-set-same, getD-set-other}
 use borrow.Author.Tests.{eqb-true, eq-eqb}
 use Rattle.layers.specs.Bytes.{AllBytes}
 use Rattle.layers.specs.Items.{recordsOf, entriesOf, recordAt}
 use Rattle.layers.specs.Search.{freeEntryPlace, freeRecordPlace, usedEntries, usedRecords}
-use Rattle.layers.specs.Rules.{Reaches, at-root, Valid}
+use Rattle.layers.specs.Rules.{Reaches, at-root, Present, Valid}
 use Rattle.layers.proofs.EveryLaws.{no-true}
 use Rattle.layers.specs.declared.search.Found.{Found}
 use Rattle.layers.specs.declared.search.Found.the-variants.{At, Missing}
@@ -26,12 +27,13 @@ use Rattle.merge.specs.Tables.{tableOf}
 use Rattle.merge.specs.Scan.{isWalked}
 use Rattle.merge.specs.Stacks.{pair, stackOf}
 use Rattle.merge.specs.Fresh.{rootsFrom, rootStack}
-use Rattle.merge.specs.Load.{stackList}
+use Rattle.merge.specs.Load.{stackList, isLoaded}
+use Rattle.merge.specs.Heads.{nextOf}
 use Rattle.merge.proofs.TableLaws.{table-upper}
 use Rattle.merge.proofs.ClassLaws.{walked-long, directory-walked}
 use Rattle.merge.proofs.NodeLists.{number-changed}
 use Rattle.merge.proofs.StateLaws.{length-nodes}
-use Rattle.calls.specs.Parents.{placeOf, placeNumbered, topOf}
+use Rattle.calls.specs.Parents.{placeOf, placeNumbered, topOf, isDirectoryNode}
 use Rattle.calls.specs.Upper.{Up, up, parentPlace, inUpper, topRecord, directoryLike, madeDirectory, madeUpper}
 use Rattle.calls.specs.Room.{missingFrom}
 use Rattle.demands.specs.Invariant.{nodeBy, Good}
@@ -42,7 +44,8 @@ use Rattle.demands.proofs.InvariantShare.{In, here, root-one}
 use Rattle.demands.proofs.StackSteps.{Steps, steps-once, steps-below}
 use Rattle.demands.proofs.PlacesCounted.{record-place-free, entry-place-free}
 use Rattle.demands.proofs.UpperBytes.{add-new-bytes, directory-like-bytes, walked-byte, node-name-bytes}
-use Rattle.demands.proofs.MadeDirectory.{take-first, node-stack, node-some, parent-node, parent-earlier, parent-inside, parent-walked, made-directory-valid, made-directory-sound, made-directory-good, made-directory-nodes, made-directory-top, made-directory-walked, made-directory-still, made-directory-records, made-directory-entries}
+use Rattle.demands.proofs.MadeDirectory.{take-first, node-stack, node-some, parent-node, parent-earlier, parent-inside, parent-walked, made-directory-valid, made-directory-sound, made-directory-good, made-directory-nodes, made-directory-top, made-directory-walked, made-directory-still, made-directory-kept, made-directory-length, made-directory-next, made-directory-records, made-directory-entries}
+use Rattle.demands.proofs.LinkedNew.{source-there}
 
 -- ---- the way from a node to the root
 
@@ -136,8 +139,17 @@ pub record MadePath (t l s : List ℕ) (k c : ℕ) (u : Up) : Type 0 where
   -- those in the upper layer, and those that came after the directory, are as they were
   pub upper-same : (j : ℕ) → inUpper (nodeAt (nodesOf s) j) ≡ true → nodeAt (nodesOf (u .state)) j ≡ nodeAt (nodesOf s) j
   pub later-same : (j : ℕ) → nodeAt (nodesOf s) k .number < nodeAt (nodesOf s) j .number → nodeAt (nodesOf (u .state)) j ≡ nodeAt (nodesOf s) j
-  -- and every directory is one
+  -- and so is what is no directory
+  pub plain-same : (j : ℕ) → (Walked t l (nodeAt (nodesOf s) j) → ⊥) → nodeAt (nodesOf (u .state)) j ≡ nodeAt (nodesOf s) j
+  -- every directory is one
   pub walked-still : (j : ℕ) → Walked t l (nodeAt (nodesOf s) j) → Walked (u .table) l (nodeAt (nodesOf (u .state)) j)
+  -- and every file of the upper layer
+  pub file-still : (j : ℕ) → j < countOf s → inUpper (nodeAt (nodesOf s) j) ≡ true → isDirectoryNode t l (nodeAt (nodesOf s) j) ≡ false → isDirectoryNode (u .table) l (nodeAt (nodesOf (u .state)) j) ≡ false
+  -- no mark of a node changes, nor the state's length or its next number
+  pub loaded-same : (j : ℕ) → isLoaded (nodeAt (nodesOf (u .state)) j) ≡ isLoaded (nodeAt (nodesOf s) j)
+  pub white-same : (j : ℕ) → nodeAt (nodesOf (u .state)) j .white ≡ nodeAt (nodesOf s) j .white
+  pub length-same : length (u .state) ≡ length s
+  pub next-same : nextOf (u .state) ≡ nextOf s
   pub records : usedRecords (recordsOf (u .table)) ≡ usedRecords (recordsOf t) + c
   pub entries : usedEntries (entriesOf (u .table)) ≡ usedEntries (entriesOf t) + c
 
@@ -156,7 +168,13 @@ none-made t l s v sound g k h =
       key-same = λ j. refl;
       upper-same = λ j _. refl;
       later-same = λ j _. refl;
+      plain-same = λ j _. refl;
       walked-still = λ j w. w;
+      file-still = λ j _ _ d. d;
+      loaded-same = λ j. refl;
+      white-same = λ j. refl;
+      length-same = refl;
+      next-same = refl;
       records = sym (add-zero (usedRecords (recordsOf t)));
       entries = sym (add-zero (usedEntries (entriesOf t)));
     }
@@ -176,6 +194,14 @@ unfolding inUpper
 upper-byte t l v n h w =
     walked-byte t v (topOf n .number)
     (ap (λ (m : List ℕ). isWalked m (topOf n .number)) (table-upper t l 0 refl (v .size)) ∙ (ap (λ (m : ℕ). isWalked (tableOf t l m) (topOf n .number)) (sym (eqb-true (topOf n .layer) 0 h)) ∙ w))
+
+-- a node of the upper layer is the directory it was, or none, where its record is
+upper-kept : (t w l : List ℕ) → length t ≡ 8192 → length w ≡ 8192 → (n : Node) → inUpper n ≡ true → isWalked w (topOf n .number) ≡ isWalked t (topOf n .number) → isDirectoryNode w l n ≡ isDirectoryNode t l n
+unfolding isDirectoryNode inUpper
+upper-kept t w l a b n h e =
+    let z : topOf n .layer ≡ 0 = eqb-true (topOf n .layer) 0 h in
+    ap (λ (c : Bool). cond (eqb (n .depth) 0) false c)
+    (ap (λ (m : List ℕ). isWalked m (topOf n .number)) (sym (table-upper w l (topOf n .layer) z b)) ∙ (e ∙ ap (λ (m : List ℕ). isWalked m (topOf n .number)) (table-upper t l (topOf n .layer) z a)))
 
 -- one more below a made path
 module _ (t l s : List ℕ) (g : Good t l s) (k : ℕ) (b : k < countOf s) (other : nodeAt (nodesOf s) k .number ≢ 1) (dir : Walked t l (nodeAt (nodesOf s) k)) (low : inUpper (nodeAt (nodesOf s) k) ≡ false) (c : ℕ) (u : Up) (p : MadePath t l s (parentPlace s k) c u)
@@ -244,6 +270,33 @@ module _ (t l s : List ℕ) (g : Good t l s) (k : ℕ) (b : k < countOf s) (othe
         go (yes e) = rw e (ap keyOf here-is ∙ ap keyOf same)
         go (no e) = ap keyOf (other-is j e) ∙ p .key-same j
 
+    each-loaded : (j : ℕ) → isLoaded (nodeAt (nodesOf (made .state)) j) ≡ isLoaded (nodeAt (nodesOf s) j)
+    unfolding withStack isLoaded
+    each-loaded j = go (ℕ-discrete j k)
+      where
+        go : Dec (j ≡ k) → isLoaded (nodeAt (nodesOf (made .state)) j) ≡ isLoaded (nodeAt (nodesOf s) j)
+        go (yes e) = rw e (ap isLoaded here-is ∙ ap isLoaded same)
+        go (no e) = ap isLoaded (other-is j e) ∙ p .loaded-same j
+
+    each-white : (j : ℕ) → nodeAt (nodesOf (made .state)) j .white ≡ nodeAt (nodesOf s) j .white
+    unfolding withStack
+    each-white j = go (ℕ-discrete j k)
+      where
+        go : Dec (j ≡ k) → nodeAt (nodesOf (made .state)) j .white ≡ nodeAt (nodesOf s) j .white
+        go (yes e) = rw e (ap (λ (n : Node). n .white) here-is ∙ ap (λ (n : Node). n .white) same)
+        go (no e) = ap (λ (n : Node). n .white) (other-is j e) ∙ p .white-same j
+
+    each-file : (j : ℕ) → j < countOf s → inUpper (nodeAt (nodesOf s) j) ≡ true → isDirectoryNode t l (nodeAt (nodesOf s) j) ≡ false → isDirectoryNode (made .table) l (nodeAt (nodesOf (made .state)) j) ≡ false
+    each-file j i h d =
+        let x : nodeAt (nodesOf (u .state)) j ≡ nodeAt (nodesOf s) j = p .upper-same j h in
+        let y : inUpper (nodeAt (nodesOf (u .state)) j) ≡ true = ap inUpper x ∙ h in
+        let e : isDirectoryNode (u .table) l (nodeAt (nodesOf (u .state)) j) ≡ false = p .file-still j i h d in
+        let c : Present (recordsOf (u .table)) (topOf (nodeAt (nodesOf (u .state)) j) .number) = source-there (u .table) l (u .state) (p .valid) (p .good) j (rw (p .count-same) i) y e in
+        ap (isDirectoryNode (made .table) l) (other-is j (λ z. no-true (sym low ∙ (ap (λ (m : ℕ). inUpper (nodeAt (nodesOf s) m)) (sym z) ∙ h))))
+        ∙ (upper-kept (u .table) (made .table) l (p .valid .size) (made-valid .size) (nodeAt (nodesOf (u .state)) j) y
+        (made-directory-kept (u .table) l (u .state) (p .good) k b-now other-now (p .valid) (p .sound) low-now dir-now high-now (free .0) (free .1) (room .0) (room .1) (topOf (nodeAt (nodesOf (u .state)) j) .number) c)
+        ∙ e)
+
     each-found : (x : ℕ) → findNumber (nodesOf (made .state)) x ≡ findNumber (nodesOf s) x
     unfolding withStack
     each-found x = ap (λ (ns : List Node). findNumber ns x) nodes-are ∙ (number-changed (nodesOf (u .state)) k a refl x ∙ p .found-same x)
@@ -303,7 +356,13 @@ module _ (t l s : List ℕ) (g : Good t l s) (k : ℕ) (b : k < countOf s) (othe
           later-same = λ j h.
               let o : nodeAt (nodesOf s) (parentPlace s k) .number < nodeAt (nodesOf s) k .number = parent-earlier t l s g k b other in
               other-is j (λ e. let y : nodeAt (nodesOf s) j .number ≡ nodeAt (nodesOf s) k .number = ap (λ (m : ℕ). nodeAt (nodesOf s) m .number) e in omega arith) ∙ p .later-same j (omega arith);
+          plain-same = λ j h. other-is j (λ e. h (subst (λ (m : ℕ). Walked t l (nodeAt (nodesOf s) m)) (sym e) dir)) ∙ p .plain-same j h;
           walked-still = each-walked;
+          file-still = each-file;
+          loaded-same = each-loaded;
+          white-same = each-white;
+          length-same = made-directory-length (u .table) l (u .state) (p .good) k b-now other-now (p .valid) (p .sound) low-now dir-now high-now (free .0) (free .1) (room .0) (room .1) ∙ p .length-same;
+          next-same = made-directory-next (u .table) l (u .state) (p .good) k b-now other-now (p .valid) (p .sound) low-now dir-now high-now (free .0) (free .1) (room .0) (room .1) ∙ p .next-same;
           records =
               let e : usedRecords (recordsOf (u .table)) ≡ usedRecords (recordsOf t) + c = p .records in
               let h : usedRecords (recordsOf (made .table)) ≡ suc (usedRecords (recordsOf (u .table))) =

@@ -65,7 +65,7 @@ least-below n = go (ltb 28 n) refl
     go true e = omega arith
     go false e = ltb-false 28 n e
 
-naming-bytes : (d : ℕ) (x : Name) (c : ℕ) → d < 256 → c < 256 → AllBytes x → AllBytes (entryBytes (entryNaming d x c))
+pub naming-bytes : (d : ℕ) (x : Name) (c : ℕ) → d < 256 → c < 256 → AllBytes x → AllBytes (entryBytes (entryNaming d x c))
 unfolding entryBytes entryNaming
 naming-bytes d x c p q h =
     let m : least 28 (length x) ≤ 28 = least-below (length x) in
