@@ -3,7 +3,6 @@ use mathlib.Core.Path.{_≡_, refl, sym, ap, _∙_, subst}
 use mathlib.Core.Logic.{_≢_}
 use Prim.Native.Nat.{ℕ, zero, suc, _+_, _≤_, _<_}
 use native.Mathlib.Omega.{arith}
-use native.Mathlib.Decide.{ℕ-discrete}
 use mathlib.Core.Bool.{Bool, true, false, not, cond}
 use mathlib.Core.List.{List, [], _∷_, _++_}
 use lib.Dec.{eqb}
@@ -21,7 +20,6 @@ use Rattle.merge.specs.Nodes.{nodeName, countOf, nodesOf, nodeAt}
 use Rattle.merge.specs.State.{findNumber, isFound}
 use Rattle.merge.specs.Tables.{tableOf}
 use Rattle.merge.specs.Scan.{isWalked}
-use Rattle.merge.proofs.TableLaws.{table-upper}
 use Rattle.merge.proofs.StateLaws.{length-nodes}
 use Rattle.calls.specs.Refusal.{Test, test, passed}
 use Rattle.calls.specs.Lengths.{lengthsTest}
@@ -41,27 +39,13 @@ use Rattle.demands.proofs.MadeDirectory.{parent-earlier, parent-inside,
 use Rattle.demands.proofs.UpperBytes.{add-new-bytes, file-like-bytes, kind-byte, node-name-bytes}
 use Rattle.demands.proofs.CopiedFile.{copied-valid, copied-good}
 use Rattle.demands.proofs.MadePath.{Walked, MadePath, near-directory, root-upper, place-same, upper-byte, made-path}
+use Rattle.demands.proofs.SoundUpper.{sound-changed, upper-valid}
 
 -- what a writing call leaves: the invariant, layers that keep every rule, and an upper table of bytes
 pub record Keeps (l : List ℕ) (u : Up) : Type 0 where
   pub good : Good (u .table) l (u .state)
   pub sound : SoundLayers (u .table) l
   pub bytes : AllBytes (u .table)
-
--- a valid upper table above the same lower ones
-pub sound-changed : (t w l : List ℕ) → SoundLayers t l → Valid w → SoundLayers w l
-sound-changed t w l sound v = record { tables = each }
-  where
-    each : (m : ℕ) → length (tableOf w l m) ≡ 8192 → Valid (tableOf w l m)
-    each m h = go (ℕ-discrete m 0)
-      where
-        go : Dec (m ≡ 0) → Valid (tableOf w l m)
-        go (yes z) = subst Valid (table-upper w l m z (v .size)) v
-        go (no z) = subst Valid (lower-table t w l m z) (sound .tables m (ap length (lower-table t w l m z) ∙ h))
-
--- the upper table is valid, where there is one
-pub upper-valid : (t l : List ℕ) → SoundLayers t l → length t ≡ 8192 → Valid t
-upper-valid t l sound h = subst Valid (sym (table-upper t l 0 refl h)) (sound .tables 0 (ap length (sym (table-upper t l 0 refl h)) ∙ h))
 
 -- fewer steps find fewer missing
 pub missing-fewer : (s : List ℕ) (m k : ℕ) → length (missingFrom m s k) ≤ length (missingFrom (suc m) s k)

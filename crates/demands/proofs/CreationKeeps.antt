@@ -72,7 +72,8 @@ use Rattle.demands.proofs.InvariantShare.{In, here, there, in-nil, Abov
 use Rattle.demands.proofs.UpperFirst.{Lower, UpperFirst, node-first}
 use Rattle.demands.proofs.MadeDirectory.{take-first, node-stack, node-some}
 use Rattle.demands.proofs.MadePath.{Walked, MadePath, near-directory, made-path}
-use Rattle.demands.proofs.CopyUpKeeps.{Keeps, upper-valid, missing-fewer, found-inside}
+use Rattle.demands.proofs.CopyUpKeeps.{Keeps, missing-fewer, found-inside}
+use Rattle.demands.proofs.SoundUpper.{upper-valid}
 use Rattle.demands.proofs.FilledNew.{filled-good, filled-sound}
 use Rattle.demands.proofs.FilledOver.{held-place, filled-over-good, filled-over-sound}
 

@@ -55,7 +55,6 @@ use Rattle.calls.specs.Upper.{up, inUpper, recordNumber, newRecord, addNew, mad
 use Rattle.calls.specs.Creation.{prepared, filled}
 use Rattle.demands.specs.Invariant.{nodeBy, Resident, Good}
 use Rattle.demands.specs.Reads.{SoundLayers}
-use Rattle.demands.proofs.AgreeLaws.{lower-table}
 use Rattle.demands.proofs.NameChanges.{Elsewhere, ChangedAt, names-parts, left-named-other}
 use Rattle.demands.proofs.UpperLaws.{scan-agree}
 use Rattle.demands.proofs.TopLaws.{topWalked, stack-alone, stack-none, whiteout-top}
@@ -68,9 +67,11 @@ use Rattle.demands.proofs.InvariantUpper.{child-not-root, change-step}
 use Rattle.demands.proofs.UpperFirst.{Lower, UpperFirst, node-first}
 use Rattle.demands.proofs.ValidDropped.{valid-dropped}
 use Rattle.demands.proofs.MadeDirectory.{walked-kind}
-use Rattle.demands.proofs.CopiedFile.{top-first, named-stands, mark-none, alone-tidy}
+use Rattle.demands.proofs.CopiedFile.{top-first, named-stands, mark-none}
 use Rattle.demands.proofs.FilledNew.{Makeable, made-valid, made-here, made-root, made-changed, made-stack, made-mark}
 use Rattle.demands.proofs.LinkedNew.{parent-there, parent-stack}
+use Rattle.demands.proofs.SoundUpper.{sound-changed}
+use Rattle.demands.proofs.GivenNode.{given, given-key, given-number, given-white, given-loaded, given-stack, given-tidy}
 
 -- ---- two changes at one name
 
@@ -194,14 +195,7 @@ module _ (t : List ℕ) (v : Valid t) (d : ℕ) (x : Name) (e : ℕ) (at : searc
         refilled-root = drop-root ∙ made-root u drop-valid d x r i refillable m hr he
 
         refilled-sound : (l : List ℕ) → SoundLayers t l → SoundLayers w l
-        refilled-sound l sound = record { tables = each }
-          where
-            each : (q : ℕ) → length (tableOf w l q) ≡ 8192 → Valid (tableOf w l q)
-            each q h = go (ℕ-discrete q 0)
-              where
-                go : Dec (q ≡ 0) → Valid (tableOf w l q)
-                go (yes z) = subst Valid (table-upper w l q z (refilled-valid .size)) refilled-valid
-                go (no z) = subst Valid (lower-table t w l q z) (sound .tables q (ap length (lower-table t w l q z) ∙ h))
+        refilled-sound l sound = sound-changed t w l sound refilled-valid
 
         refilled-file : isWalked w i ≡ false
         refilled-file = directory-walked w 0 i (refilled-valid .size) ∙ (ap isDirectory (made-here u drop-valid d x r i refillable m hr he) ∙ ne-eqb (r .kind) 4 no-directory-r)
@@ -245,46 +239,9 @@ module _ (n : Node) where
   bare-fits f = record { numbers = record { number-fits = f .numbers .number-fits; parent-fits = f .numbers .parent-fits; count-fits = f .numbers .count-fits }; arrays = record { stack-fits = refl; name-fits = f .arrays .name-fits } }
 
 module _ (n : Node) (p : Pair) where
-  abbrev given : Node
-  given = withWhite (alone n p) 0
-
-  given-bare : withWhite (alone (bare n) p) 0 ≡ given
+  given-bare : withWhite (alone (bare n) p) 0 ≡ given n p
   unfolding withWhite withStack
   given-bare = refl
-
-  given-key : keyOf given ≡ keyOf n
-  unfolding withWhite withStack
-  given-key = refl
-
-  given-number : given .number ≡ n .number
-  unfolding withWhite withStack
-  given-number = refl
-
-  given-white : given .white ≡ 0
-  unfolding withWhite
-  given-white = refl
-
-  given-loaded : isLoaded given ≡ isLoaded n
-  unfolding withWhite withStack isLoaded
-  given-loaded = refl
-
-  given-stack : stackList given ≡ p ∷ []
-  unfolding withWhite withStack
-  given-stack = refl
-
-  given-tidy : Tidy n → Tidy given
-  unfolding withWhite
-  given-tidy t =
-      let a : Tidy (alone n p) = alone-tidy n p t in
-      record {
-        fits = record { numbers = record { number-fits = a .fits .numbers .number-fits; parent-fits = a .fits .numbers .parent-fits; count-fits = a .fits .numbers .count-fits }; arrays = record { stack-fits = a .fits .arrays .stack-fits; name-fits = a .fits .arrays .name-fits } };
-        white-mark = omega arith;
-        loaded-mark = a .loaded-mark;
-        depth-fits = a .depth-fits;
-        length-fits = a .length-fits;
-        stack-unused = a .stack-unused;
-        name-unused = a .name-unused;
-      }
 
 -- ---- the whiteout's class
 

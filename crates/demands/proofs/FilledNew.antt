@@ -4,7 +4,6 @@ use mathlib.Core.Logic.{_≢_}
 use Prim.Native.Nat.{ℕ, zero, suc, _+_, _≤_, _<_}
 use native.Mathlib.Omega.{arith}
 use native.Mathlib.Nat.{zero-add}
-use native.Mathlib.Decide.{ℕ-discrete}
 use mathlib.Core.Bool.{Bool, true, false, cond}
 use mathlib.Core.List.{List, [], _∷_}
 use lib.Dec.{leb}
@@ -57,7 +56,6 @@ use Rattle.calls.specs.Upper.{up, inUpper, recordNumber, addNew, upperAlone, na
 use Rattle.calls.specs.Creation.{filled}
 use Rattle.demands.specs.Invariant.{nodeBy, Resident, Good}
 use Rattle.demands.specs.Reads.{SoundLayers}
-use Rattle.demands.proofs.AgreeLaws.{lower-table}
 use Rattle.demands.proofs.NameChanges.{ChangedAt, added-named, added-named-other}
 use Rattle.demands.proofs.UpperLaws.{scan-agree}
 use Rattle.demands.proofs.TopLaws.{stack-alone, whiteout-top, errno-stack}
@@ -68,6 +66,7 @@ use Rattle.demands.proofs.InvariantShare.{In, here}
 use Rattle.demands.proofs.InvariantUpper.{change-new}
 use Rattle.demands.proofs.SeatOrder.{seat-free}
 use Rattle.demands.proofs.ValidAdded.{valid-made}
+use Rattle.demands.proofs.SoundUpper.{sound-changed}
 
 -- ---- the node at the name's seat is a node put in at its place
 
@@ -357,14 +356,7 @@ module _ (t l s : List ℕ) (v : Valid t) (g : Good t l s) (k : ℕ) (b : k < co
 
       -- and so does every layer's
       pub filled-sound : SoundLayers (filled k (Open q) x r (up t s) .table) l
-      filled-sound = subst (λ (z : List ℕ). SoundLayers z l) (sym table-is) (record { tables = each })
-        where
-          each : (m : ℕ) → length (tableOf w l m) ≡ 8192 → Valid (tableOf w l m)
-          each m h = go (ℕ-discrete m 0)
-            where
-              go : Dec (m ≡ 0) → Valid (tableOf w l m)
-              go (yes z) = subst Valid (table-upper w l m z (w-valid .size)) w-valid
-              go (no z) = subst Valid (lower-table t w l m z) (sound .tables m (ap length (lower-table t w l m z) ∙ h))
+      filled-sound = subst (λ (z : List ℕ). SoundLayers z l) (sym table-is) (sound-changed t w l sound w-valid)
 
       -- what holds between calls holds of the table and the state
       pub filled-good : Good (filled k (Open q) x r (up t s) .table) l (filled k (Open q) x r (up t s) .state)

@@ -1,13 +1,12 @@
 -- What a creation or a link writes over a whiteout of a lower layer keeps what holds between calls. Assumes nothing.
 use mathlib.Core.Path.{_≡_, refl, sym, ap, ap₂, _∙_, subst}
 use mathlib.Core.Logic.{_≢_}
-use Prim.Native.Nat.{ℕ, zero, suc, _≤_, _<_}
+use Prim.Native.Nat.{ℕ, zero, _≤_, _<_}
 use native.Mathlib.Omega.{arith}
-use native.Mathlib.Decide.{ℕ-discrete}
 use mathlib.Core.Bool.{Bool, true, false, not}
 use mathlib.Core.List.{List, [], _∷_}
 use lib.Dec.{eqb}
-use lib.ListN.{length, getD}
+use lib.ListN.{length}
 use borrow.Author.Tests.{eqb-false, eq-eqb, ne-eqb}
 use Rattle.layers.specs.Names.{Name}
 use Rattle.layers.specs.Items.{recordsOf, entriesOf, recordAt, FitsTail}
@@ -18,10 +17,8 @@ use Rattle.layers.specs.declared.items.Record.{Record}
 use Rattle.layers.specs.declared.search.Found.{Found}
 use Rattle.layers.specs.declared.search.Found.the-variants.{At, Missing}
 use Rattle.layers.proofs.EveryLaws.{no-true}
-use Rattle.layers.proofs.Padded.{getD-all}
-use Rattle.merge.specs.Nodes.{noPair, nodeName, keyOf, countOf, nodesOf, nodeAt}
-use Rattle.merge.specs.Tidy.{Tidy}
-use Rattle.merge.specs.Methods.{withWhite, withStack, onlyPair, alone}
+use Rattle.merge.specs.Nodes.{nodeName, keyOf, countOf, nodesOf, nodeAt}
+use Rattle.merge.specs.Methods.{withWhite, alone}
 use Rattle.merge.specs.Heads.{nextOf}
 use Rattle.merge.specs.Seats.{seatOf, holder}
 use Rattle.merge.specs.Tables.{tableOf}
@@ -43,7 +40,6 @@ use Rattle.calls.specs.Creation.{filled}
 use Rattle.calls.specs.Link.{linked}
 use Rattle.demands.specs.Invariant.{nodeBy, Resident, Good}
 use Rattle.demands.specs.Reads.{SoundLayers}
-use Rattle.demands.proofs.AgreeLaws.{lower-table}
 use Rattle.demands.proofs.NameChanges.{ChangedAt}
 use Rattle.demands.proofs.TopLaws.{topWalked, stack-none, directory-live}
 use Rattle.demands.proofs.InvariantNodes.{place-by, place-resident, child-place}
@@ -57,60 +53,8 @@ use Rattle.demands.proofs.MadeDirectory.{seen-starts}
 use Rattle.demands.proofs.CopiedFile.{top-first, mark-none, named-stands, unseen-missing, node-some, node-short}
 use Rattle.demands.proofs.FilledNew.{Makeable, made-valid, made-here, made-root, made-changed, made-stack, made-mark}
 use Rattle.demands.proofs.LinkedNew.{link-valid, link-record, link-changed, link-sound, link-stack, link-mark, source-file, source-there, source-live, parent-there, parent-stack}
-
--- ---- a node with one record alone, marked no whiteout
-
-module _ (n : Node) (p : Pair) where
-  abbrev given : Node
-  given = withWhite (alone n p) 0
-
-  given-key : keyOf given ≡ keyOf n
-  unfolding withWhite withStack
-  given-key = refl
-
-  given-number : given .number ≡ n .number
-  unfolding withWhite withStack
-  given-number = refl
-
-  given-white : given .white ≡ 0
-  unfolding withWhite
-  given-white = refl
-
-  given-loaded : isLoaded given ≡ isLoaded n
-  unfolding withWhite withStack isLoaded
-  given-loaded = refl
-
-  given-stack : stackList given ≡ p ∷ []
-  unfolding withWhite withStack
-  given-stack = refl
-
-  only-past : (i : ℕ) → 1 ≤ i → getD (onlyPair p) i noPair ≡ noPair
-  only-past zero l = absurd (omega arith)
-  only-past (suc i) l = getD-all 3 i noPair
-
-  given-tidy : Tidy n → Tidy given
-  unfolding withWhite withStack
-  given-tidy t =
-      record {
-        fits = record { numbers = record { number-fits = t .fits .numbers .number-fits; parent-fits = t .fits .numbers .parent-fits; count-fits = t .fits .numbers .count-fits }; arrays = record { stack-fits = refl; name-fits = t .fits .arrays .name-fits } };
-        white-mark = omega arith;
-        loaded-mark = t .loaded-mark;
-        depth-fits = omega arith;
-        length-fits = t .length-fits;
-        stack-unused = only-past;
-        name-unused = t .name-unused;
-      }
-
--- where the upper table is valid, the layers are as sound as they were
-sound-upper : (t w l : List ℕ) → Valid w → SoundLayers t l → SoundLayers w l
-sound-upper t w l valid sound = record { tables = each }
-  where
-    each : (m : ℕ) → length (tableOf w l m) ≡ 8192 → Valid (tableOf w l m)
-    each m h = go (ℕ-discrete m 0)
-      where
-        go : Dec (m ≡ 0) → Valid (tableOf w l m)
-        go (yes z) = subst Valid (table-upper w l m z (valid .size)) valid
-        go (no z) = subst Valid (lower-table t w l m z) (sound .tables m (ap length (lower-table t w l m z) ∙ h))
+use Rattle.demands.proofs.SoundUpper.{sound-changed}
+use Rattle.demands.proofs.GivenNode.{given, given-key, given-number, given-white, given-loaded, given-stack, given-tidy}
 
 marked-one : (b : Bool) (m : ℕ) → m ≡ one b → not (eqb m 0) ≡ true → b ≡ true
 unfolding one
@@ -297,7 +241,7 @@ module _ (t l s : List ℕ) (v : Valid t) (g : Good t l s) (sound : SoundLayers 
 
       -- and so does every layer's
       pub filled-over-sound : SoundLayers (filled k (Held j) x r (up t s) .table) l
-      filled-over-sound = subst (λ (z : List ℕ). SoundLayers z l) (sym table-is) (sound-upper t made l valid-after sound)
+      filled-over-sound = subst (λ (z : List ℕ). SoundLayers z l) (sym table-is) (sound-changed t made l sound valid-after)
 
       -- what holds between calls holds of the table and the state
       pub filled-over-good : Good (filled k (Held j) x r (up t s) .table) l (filled k (Held j) x r (up t s) .state)

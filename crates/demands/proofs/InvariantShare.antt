@@ -163,7 +163,7 @@ module _ (u l : List ℕ) where
 -- ---- what the upper table's rules give
 
 -- an entry found has the directory and the name that it was searched by
-found-parts : (es : List Entry) (d : ℕ) (x : Name) (c : ℕ) → named es d x ≡ c → c ≢ 0 → (j : ℕ) × Used es j × (entryAt es j .child ≡ c) × (entryAt es j .parent ≡ d) × (nameOf (entryAt es j) ≡ x)
+pub found-parts : (es : List Entry) (d : ℕ) (x : Name) (c : ℕ) → named es d x ≡ c → c ≢ 0 → (j : ℕ) × Used es j × (entryAt es j .child ≡ c) × (entryAt es j .parent ≡ d) × (nameOf (entryAt es j) ≡ x)
 unfolding childAt
 found-parts es d x c h z = go (searchOf es d x) refl h
   where

@@ -23,6 +23,8 @@ pub mod ReadLaws
 pub mod ValidDropped
 pub mod ValidAdded
 pub mod PlacesCounted
+pub mod SoundUpper
+pub mod GivenNode
 pub mod UpperFirst
 pub mod StackSteps
 pub mod MadeDirectory

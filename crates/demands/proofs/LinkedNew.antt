@@ -3,7 +3,6 @@ use mathlib.Core.Path.{_≡_, refl, sym, ap, ap₂, _∙_, subst}
 use mathlib.Core.Logic.{_≢_}
 use Prim.Native.Nat.{ℕ, zero, suc, _≤_, _<_}
 use native.Mathlib.Omega.{arith}
-use native.Mathlib.Decide.{ℕ-discrete}
 use mathlib.Core.Bool.{true, false}
 use mathlib.Core.List.{List, [], _∷_}
 use lib.Dec.{eqb}
@@ -49,7 +48,6 @@ use Rattle.calls.specs.Upper.{up, parentPlace, inUpper, upperAlone, namedState}
 use Rattle.calls.specs.Link.{linked}
 use Rattle.demands.specs.Invariant.{nodeBy, Resident, Good}
 use Rattle.demands.specs.Reads.{SoundLayers}
-use Rattle.demands.proofs.AgreeLaws.{lower-table}
 use Rattle.demands.proofs.NameChanges.{ChangedAt, added-named, added-named-other}
 use Rattle.demands.proofs.UpperLaws.{scan-agree}
 use Rattle.demands.proofs.TopLaws.{stack-alone, whiteout-top}
@@ -63,6 +61,7 @@ use Rattle.demands.proofs.SeatOrder.{seat-child}
 use Rattle.demands.proofs.ValidAdded.{valid-linked}
 use Rattle.demands.proofs.CopiedFile.{top-first, other-class, top-live, named-stands, unseen-missing, one-zero, pair-is, node-stack, node-some, node-white}
 use Rattle.demands.proofs.MadeDirectory.{walked-kind, seen-starts}
+use Rattle.demands.proofs.SoundUpper.{sound-changed}
 
 -- ---- the record `c`, which is there and no directory, under the name `x` of the directory `d`, which has it not
 
@@ -104,14 +103,7 @@ module _ (t : List ℕ) (v : Valid t) (d : ℕ) (walked : isWalked t d ≡ true)
 
   -- the other layers are as they were
   pub link-sound : (l : List ℕ) → SoundLayers t l → SoundLayers link l
-  link-sound l sound = record { tables = each }
-    where
-      each : (m : ℕ) → length (tableOf link l m) ≡ 8192 → Valid (tableOf link l m)
-      each m h = go (ℕ-discrete m 0)
-        where
-          go : Dec (m ≡ 0) → Valid (tableOf link l m)
-          go (yes z) = subst Valid (table-upper link l m z (link-valid .size)) link-valid
-          go (no z) = subst Valid (lower-table t link l m z) (sound .tables m (ap length (lower-table t link l m z) ∙ h))
+  link-sound l sound = sound-changed t link l sound link-valid
 
   -- where the record is no whiteout, the name's stack is the record alone
   module _ (live : isWhiteout (recordAt (recordsOf t) c) ≡ false) where

@@ -69,6 +69,7 @@ use Rattle.demands.proofs.ValidAdded.{valid-made}
 use Rattle.demands.proofs.PlacesCounted.{added-record-records, added-record-entries, added-entry-records, added-entry-entries}
 use Rattle.demands.proofs.StackSteps.{found-entry, Steps, steps-once, steps-below, node-steps}
 use Rattle.demands.proofs.UpperFirst.{Lower, UpperFirst, node-first}
+use Rattle.demands.proofs.SoundUpper.{sound-changed}
 
 true-false : {A : Type 0} → true ≡ false → A
 true-false e = absurd (let z : _≡_ {A = ℕ} 0 1 = cc in omega arith)
@@ -585,14 +586,7 @@ module _ (t l s : List ℕ) (g : Good t l s) (k : ℕ) (b : k < countOf s) (othe
 
         -- and so does every layer's
         pub made-directory-sound : SoundLayers (madeDirectory l k (up t s) .table) l
-        made-directory-sound = subst (λ (z : List ℕ). SoundLayers z l) (sym table-is) (record { tables = each })
-          where
-            each : (m : ℕ) → length (tableOf w l m) ≡ 8192 → Valid (tableOf w l m)
-            each m h = go (ℕ-discrete m 0)
-              where
-                go : Dec (m ≡ 0) → Valid (tableOf w l m)
-                go (yes z) = subst Valid (table-upper w l m z (w-valid .size)) w-valid
-                go (no z) = subst Valid (lower-table t w l m z) (sound .tables m (ap length (lower-table t w l m z) ∙ h))
+        made-directory-sound = subst (λ (z : List ℕ). SoundLayers z l) (sym table-is) (sound-changed t w l sound w-valid)
 
         -- what holds between calls holds of the table and the state
         pub made-directory-good : Good (madeDirectory l k (up t s) .table) l (madeDirectory l k (up t s) .state)

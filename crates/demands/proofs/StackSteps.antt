@@ -3,40 +3,29 @@ use mathlib.Core.Path.{_≡_, refl, sym, ap, _∙_, subst}
 use mathlib.Core.Logic.{_≢_}
 use Prim.Native.Nat.{ℕ, zero, suc, _<_}
 use native.Mathlib.Omega.{arith}
-use native.Mathlib.Nat.{zero-add}
 use native.Mathlib.Decide.{ℕ-discrete}
 use mathlib.Core.List.{List}
 use Rattle.layers.specs.Names.{Name}
-use Rattle.layers.specs.Items.{recordsOf, entriesOf, recordAt, entryAt, freeEntry}
-use Rattle.layers.specs.Search.{nameOf, names, searchOf}
+use Rattle.layers.specs.Items.{recordsOf, entriesOf, recordAt, entryAt}
+use Rattle.layers.specs.Search.{nameOf}
 use Rattle.layers.specs.Rules.{Used, Reaches, at-root, up, Valid}
 use Rattle.layers.specs.declared.items.Entry.{Entry}
-use Rattle.layers.specs.declared.search.Found.{Found}
-use Rattle.layers.specs.declared.search.Found.the-variants.{At, Missing}
-use Rattle.layers.proofs.RuleDistinct.{names-exactly}
+use Rattle.layers.specs.declared.search.Found.the-variants.{At}
 use Rattle.layers.proofs.RuleFacts.{directory-once}
-use Rattle.layers.proofs.ChangeLaws.{first-passes}
 use Rattle.merge.specs.declared.node.Node.{Node}
 use Rattle.merge.specs.declared.stacks.Pair.{Pair}
 use Rattle.merge.specs.Nodes.{nodeName}
 use Rattle.merge.specs.Tables.{tableOf}
-use Rattle.merge.specs.Classes.{childAt, named}
+use Rattle.merge.specs.Classes.{named}
 use Rattle.merge.specs.Stacks.{stackOf}
 use Rattle.merge.specs.Load.{stackList}
 use Rattle.demands.specs.Invariant.{Resident, Coherent}
-use Rattle.demands.proofs.InvariantShare.{In, Above, stack-above, root-one}
+use Rattle.demands.proofs.InvariantShare.{found-parts, In, Above, stack-above, root-one}
 
 -- ---- the entry that a search finds
 
 pub found-entry : (es : List Entry) (d : ℕ) (x : Name) → named es d x ≢ 0 → (j : ℕ) × Used es j × (entryAt es j .child ≡ named es d x) × (entryAt es j .parent ≡ d) × (nameOf (entryAt es j) ≡ x)
-unfolding childAt
-found-entry es d x z = go (searchOf es d x) refl z
-  where
-    go : (f : Found) → searchOf es d x ≡ f → childAt es f ≢ 0 → (j : ℕ) × Used es j × (entryAt es j .child ≡ childAt es f) × (entryAt es j .parent ≡ d) × (nameOf (entryAt es j) ≡ x)
-    go (At j) e z =
-        let p : (entryAt es j .parent ≡ 0 → ⊥) × ((entryAt es j .parent ≡ d) × (nameOf (entryAt es j) ≡ x)) = names-exactly d x (entryAt es j) .sound (first-passes (names d x) freeEntry 0 es j (e ∙ ap At (sym (zero-add j)))) in
-        (j, p .0, refl, p .1 .0, p .1 .1)
-    go Missing e z = absurd (z refl)
+found-entry es d x z = found-parts es d x (named es d x) refl z
 
 -- ---- a directory of a valid table reaches the root in one number of steps
 
