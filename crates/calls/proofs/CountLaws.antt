@@ -7,7 +7,7 @@ use mathlib.Core.Bool.{Bool, true, false, not}
 use mathlib.Core.List.{List, [], ◌∷◌}
 use lib.ListN.{drop, drop_of_length-le}
 use lib.Seq.{drop-cons}
-use borrow.Author.Tests.{eq_eqb, ne_eqb}
+use borrow.Author.Tests.{eq-eqb, ne_eqb}
 use Rattle.merge.specs.Nodes.{count_of, nodes_of, node_at, no_node}
 use Rattle.merge.specs.State.{has_parent, those}
 use Rattle.merge.specs.Load.{load_bytes}
@@ -28,11 +28,11 @@ module _ (x : ℕ) (n : Node) (w : ℕ) (q : w ≡ n.parent) where
   module _ (h : w ≡ x) (b : Bool) (g : b ≡ is_white n) where
     pub weight_white : b ≡ true → 65536 ≡ weight x n
     unfolding weight has_parent
-    weight_white t = rw (eq_eqb n.parent x (sym q ∙ h), ← g, t) refl
+    weight_white t = rw (eq-eqb n.parent x (sym q ∙ h), ← g, t) refl
 
     pub weight_live : b ≡ false → 1 ≡ weight x n
     unfolding weight has_parent
-    weight_live t = rw (eq_eqb n.parent x (sym q ∙ h), ← g, t) refl
+    weight_live t = rw (eq-eqb n.parent x (sym q ∙ h), ← g, t) refl
 
 pub ruleset weights = (weight_other, weight_white, weight_live)
 

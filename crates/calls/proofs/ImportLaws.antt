@@ -8,7 +8,7 @@ use mathlib.Core.List.{List, [], ◌∷◌, ◌++◌, append_assoc, append-nil}
 use lib.Dec.{eqb}
 use lib.ListN.{length, drop, get_or, set, replicate, length-replicate, replicate-append-replicate, drop_of_length-le}
 use lib.Seq.{drop-cons, set-append_seam}
-use borrow.Author.Tests.{eq_eqb, ne_eqb, eqb-true}
+use borrow.Author.Tests.{eq-eqb, ne_eqb, eqb-true}
 use Rattle.layers.specs.Rules.{valid_test}
 use Rattle.merge.specs.Heads.{with_head}
 use Rattle.merge.specs.Changes.{put_in_bytes}
@@ -32,7 +32,7 @@ use Rattle.calls.proofs.TestLaws.{passed_append, fine_passed, refused_failed, st
 module _ (t w : List ℕ) (e : t ≡ w) where
   pub no_bytes : length t ≡ 0 → false ≡ broken_layer w
   unfolding broken_layer
-  no_bytes h = rw (← e, eq_eqb (length t) 0 h) refl
+  no_bytes h = rw (← e, eq-eqb (length t) 0 h) refl
 
   pub rules_decide : (length t ≡ 0 → ⊥) → (b : Bool) → b ≡ valid_test t → not b ≡ broken_layer w
   unfolding broken_layer

@@ -3,7 +3,7 @@ use mathlib.Core.Path.{◌≡◌, refl, sym, ap, ◌∙◌}
 use Prim.Native.Nat.{ℕ, ◌+◌}
 use mathlib.Core.Bool.{Bool, true, false, not, cond}
 use mathlib.Core.List.{List, []}
-use borrow.Author.Tests.{eq_eqb, ne_eqb, not-true, not-false}
+use borrow.Author.Tests.{eq-eqb, ne_eqb, not-true, not-false}
 use Rattle.merge.specs.Load.{load_bytes}
 use Rattle.calls.specs.Refusal.{Test, after_tests, passed}
 use Rattle.calls.specs.Lengths.{lengths_test}
@@ -90,7 +90,7 @@ module _ (u l s : List ℕ) (x o size : ℕ) (t : List ℕ) (b : Bool) (q : b �
 
   pub list_nothing : not b ≡ false → size ≡ 0 → listed (Fine 0) s t ≡ list_spec u l s x o size t
   unfolding list_spec
-  list_nothing h z = rw (← q, not-false b h, eq_eqb size 0 z) refl
+  list_nothing h z = rw (← q, not-false b h, eq-eqb size 0 z) refl
 
   pub list_some : not b ≡ false → (size ≡ 0 → ⊥) → (a : Answer) (s' v : List ℕ) → listed a s' v ≡ list_loaded u l s x o size t → listed a s' v ≡ list_spec u l s x o size t
   unfolding list_spec

@@ -4,7 +4,7 @@ use Prim.Native.Nat.{ℕ}
 use mathlib.Core.Bool.{Bool, true, false, not}
 use mathlib.Core.List.{List, [], ◌∷◌}
 use lib.ListN.{length}
-use borrow.Author.Tests.{eq_eqb, ne_eqb}
+use borrow.Author.Tests.{eq-eqb, ne_eqb}
 use Rattle.layers.specs.declared.search.Found.{Found}
 use Rattle.layers.specs.declared.search.Found.TheVariants.{At, Missing}
 use Rattle.merge.specs.Nodes.{nodes_of, node_at}
@@ -25,7 +25,7 @@ module _ (r : Refusal) (ts : List Test) (a : Answer) (u : List ℕ) where
 
   pub upper_passes : (z : Answer) → length u ≡ 8192 → z ≡ after_tests ts a → z ≡ after_tests (test (not (has_upper u)) r ∷ ts) a
   unfolding after_tests
-  upper_passes z h e = rw (eq_eqb (length u) 8192 h) e
+  upper_passes z h e = rw (eq-eqb (length u) 8192 h) e
 
 -- ---- "2 ENOENT node unknown or whiteout"
 module _ (s : List ℕ) (x : ℕ) (f : Found) (f-is : f ≡ find_number (nodes_of s) x) where

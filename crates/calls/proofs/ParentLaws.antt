@@ -5,7 +5,7 @@ use mathlib.Core.Bool.{Bool, true, false, not}
 use lib.Dec.{eqb}
 use mathlib.Core.List.{List}
 use lib.ListN.{get_or}
-use borrow.Author.Tests.{eq_eqb, ne_eqb}
+use borrow.Author.Tests.{eq-eqb, ne_eqb}
 use Rattle.layers.specs.declared.search.Found.{Found}
 use Rattle.layers.specs.declared.search.Found.TheVariants.{At, Missing}
 use Rattle.merge.specs.Nodes.{no_pair, nodes_of, node_at, count_of}
@@ -25,7 +25,7 @@ use Rattle.calls.specs.declared.refusal.Answer.TheVariants.{Fine, Refused}
 module _ (u l : List ℕ) (n : Node) where
   pub no_top : n.depth ≡ 0 → false ≡ is_directory_node u l n
   unfolding is_directory_node
-  no_top h = rw (eq_eqb n.depth 0 h) refl
+  no_top h = rw (eq-eqb n.depth 0 h) refl
 
   pub top_decides : (n.depth ≡ 0 → ⊥) → (k : ℕ) (t : List ℕ) (b : Bool) → k ≡ (get_or n.stack 0 no_pair).layer → t ≡ table_of u l k → b ≡ is_walked t (get_or n.stack 0 no_pair).number → b ≡ is_directory_node u l n
   unfolding is_directory_node

@@ -6,7 +6,7 @@ use mathlib.Core.Bool.{Bool, true, false, not}
 use mathlib.Core.List.{List, [], ◌∷◌}
 use lib.Dec.{ltb, leb}
 use lib.ListN.{length}
-use borrow.Author.Tests.{eq_eqb, ne_eqb, le-leb, lt-leb, ltb-true, ltb-false}
+use borrow.Author.Tests.{eq-eqb, ne_eqb, le-leb, lt-leb, ltb-true, ltb-false}
 use Rattle.layers.specs.Names.{Name}
 use Rattle.layers.specs.Items.{records_of, entries_of, entry_at}
 use Rattle.layers.specs.Search.{one, count_if, search_of, is_free, no_record, naming, used_entries, used_records}
@@ -73,7 +73,7 @@ module _ (s : List ℕ) (m j i : ℕ) (w : Bool) (inv : is_in i (missing_from m 
     pub is_in_here : b ≡ false → i ≡ j → true ≡ w
     unfolding is_in
     is_in_here h e =
-        rw (eq_eqb i j e) at (sym (ap (is_in i) (one_above s m j some n n-is b b-is h n.parent (place_numbered s n.parent) refl refl)) ∙ inv)
+        rw (eq-eqb i j e) at (sym (ap (is_in i) (one_above s m j some n n-is b b-is h n.parent (place_numbered s n.parent) refl refl)) ∙ inv)
 
     pub is_in_next : b ≡ false → (i ≡ j → ⊥) → (p k : ℕ) → p ≡ n.parent → k ≡ place_numbered s p → is_in i (missing_from (m - 1) s k) ≡ w
     unfolding is_in
@@ -152,7 +152,7 @@ module _ (t : List ℕ) (e : Found) where
 
     pub record_goes : n ≡ 1 → 1 ≡ freed_records t e
     unfolding freed_records one
-    record_goes g = rw (h, eq_eqb (naming (entry_at (entries_of t) j).child (entries_of t)) 1 (sym naming_is ∙ g)) refl
+    record_goes g = rw (h, eq-eqb (naming (entry_at (entries_of t) j).child (entries_of t)) 1 (sym naming_is ∙ g)) refl
 
     pub record_stays : (n ≡ 1 → ⊥) → 0 ≡ freed_records t e
     unfolding freed_records one

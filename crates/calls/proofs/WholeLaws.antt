@@ -5,7 +5,7 @@ use native.Mathlib.Omega.{arith}
 use mathlib.Core.Bool.{Bool, true, cond}
 use mathlib.Core.List.{List, [], ◌∷◌}
 use lib.ListN.{length}
-use borrow.Author.Tests.{eq_eqb, ne_eqb}
+use borrow.Author.Tests.{eq-eqb, ne_eqb}
 use Rattle.merge.specs.Nodes.{nodes_of, count_of}
 use Rattle.merge.specs.declared.node.Node.{Node}
 use Rattle.merge.proofs.HeadLaws.{count_most}
@@ -24,7 +24,7 @@ use Rattle.calls.proofs.PageBounds.{listing_bytes}
 module _ (s : List ℕ) (x : ℕ) (n : Node) where
   pub above_root : x ≡ 1 → n ≡ numbered s 1 → n ≡ numbered s (above s x)
   unfolding above
-  above_root h e = e ∙ ap (λ (b : Bool). numbered s (cond b 1 (numbered s x).parent)) (sym (eq_eqb x 1 h))
+  above_root h e = e ∙ ap (λ (b : Bool). numbered s (cond b 1 (numbered s x).parent)) (sym (eq-eqb x 1 h))
 
   pub above_other : (x ≡ 1 → ⊥) → n ≡ numbered s x → (w : ℕ) → w ≡ n.parent → (m : Node) → m ≡ numbered s w → m ≡ numbered s (above s x)
   unfolding above

@@ -10,7 +10,7 @@ use mathlib.Core.List.{List, [], ◌∷◌, ◌++◌}
 use lib.Dec.{eqb, ltb}
 use lib.ListN.{length}
 use lib.Seq.{get_or-set_same, get_or-set_other}
-use borrow.Author.Tests.{eqb-true, eq_eqb, ltb-true, ltb-false, not-false}
+use borrow.Author.Tests.{eqb-true, eq-eqb, ltb-true, ltb-false, not-false}
 use Rattle.layers.specs.Bytes.{over, AllBytes}
 use Rattle.layers.specs.Names.{Name, malformed_name}
 use Rattle.layers.specs.Items.{records_of, entries_of, entry_at, free_record, free_entry, head_bytes, tail_bytes, record_bytes, entry_bytes, record_put, entry_put, FitsTail}
@@ -419,7 +419,7 @@ module _ (t l s : List ℕ) (v : Valid t) (sound : SoundLayers t l) (g : Good t 
     -- the directory is in the upper layer
     parent_upper : in_upper above ≡ true
     unfolding in_upper
-    parent_upper = eq_eqb (top_of above).layer 0 layer_above
+    parent_upper = eq-eqb (top_of above).layer 0 layer_above
 
     upper_walked : is_walked t d ≡ true
     upper_walked = ap (λ (m : List ℕ). is_walked m d) (table_upper t l 0 refl v.size) ∙ (ap (λ (m : ℕ). is_walked (table_of t l m) d) (sym layer_above) ∙ w)

@@ -10,7 +10,7 @@ use mathlib.Core.List.{List, [], ◌∷◌, ◌++◌}
 use lib.Dec.{eqb, ltb}
 use lib.ListN.{length, take, drop, set}
 use lib.Seq.{get_or-set_same, get_or-set_other}
-use borrow.Author.Tests.{eqb-true, eqb-false, eq_eqb, ne_eqb, not-true, lt-ltb}
+use borrow.Author.Tests.{eqb-true, eqb-false, eq-eqb, ne_eqb, not-true, lt-ltb}
 use Rattle.layers.specs.Names.{Name}
 use Rattle.layers.specs.Bytes.{over}
 use Rattle.layers.specs.Items.{records_of, entries_of, record_at, entry_at, free_entry, FitsTail}
@@ -252,7 +252,7 @@ mark_ends Plain h = no_true h
 mark_ends Opaque h = no_true h
 
 mark_no_directory : (t : List ℕ) (d n : ℕ) → is_mark (class_at t d n) ≡ true → (record_at (records_of t) n).kind ≢ 4
-mark_no_directory t d n h z = no_true (sym (go (is_opaque (record_at (records_of t) n))) ∙ (sym (ap is_mark (directory_class t d n (eq_eqb (record_at (records_of t) n).kind 4 z))) ∙ h))
+mark_no_directory t d n h z = no_true (sym (go (is_opaque (record_at (records_of t) n))) ∙ (sym (ap is_mark (directory_class t d n (eq-eqb (record_at (records_of t) n).kind 4 z))) ∙ h))
   where
     go : (b : Bool) → is_mark (cond b Opaque Plain) ≡ false
     go true = refl

@@ -7,7 +7,7 @@ use mathlib.Core.Bool.{Bool, true, false, not}
 use mathlib.Core.List.{List, [], ◌∷◌}
 use lib.Dec.{eqb}
 use lib.ListN.{length}
-use borrow.Author.Tests.{eqb-false, eq_eqb, ne_eqb}
+use borrow.Author.Tests.{eqb-false, eq-eqb, ne_eqb}
 use Rattle.layers.specs.Names.{Name}
 use Rattle.layers.specs.Items.{records_of, entries_of, record_at, FitsTail}
 use Rattle.layers.specs.Search.{one, search_of, free_entry_place, free_record_place}
@@ -59,7 +59,7 @@ use Rattle.demands.proofs.GivenNode.{given, given_key, given_number, given_white
 marked_one : (b : Bool) (m : ℕ) → m ≡ one b → not (eqb m 0) ≡ true → b ≡ true
 unfolding one
 marked_one true m e h = refl
-marked_one false m e h = no_true (sym (ap not (eq_eqb m 0 e)) ∙ h)
+marked_one false m e h = no_true (sym (ap not (eq-eqb m 0 e)) ∙ h)
 
 -- the node at a name's seat is the name's
 pub held_place : (t l s : List ℕ) → Good t l s → (p : ℕ) (x : Name) (j : ℕ) → seat_of (nodes_of s) p x ≡ Held j → (j < count_of s) × (key_of (node_at (nodes_of s) j) ≡ p ∷ x)

@@ -7,7 +7,7 @@ use native.Mathlib.Decide.{ℕ_discrete}
 use mathlib.Core.Bool.{Bool, true, false, cond}
 use mathlib.Core.List.{List, [], ◌∷◌, ◌++◌}
 use lib.Dec.{eqb}
-use borrow.Author.Tests.{eq_eqb, ne_eqb}
+use borrow.Author.Tests.{eq-eqb, ne_eqb}
 use Rattle.layers.specs.Names.{Name, same_name}
 use Rattle.layers.specs.Search.{one}
 use Rattle.layers.proofs.NameLaws.{same_true, same_refl}
@@ -337,7 +337,7 @@ module _ (u l : List ℕ) (f : ℕ → Node) (c : Coherent u l f) where
     where
       go : Dec (x ≡ 1) → ((f x).parent ≤ k → Resident f (f x).parent → stack_list (f (f x).parent) ≡ fresh_from u l (root_stack u l) (path_in f k (f x).parent))
           → stack_list (f x) ≡ fresh_from u l (root_stack u l) (cond (eqb x 1) [] (path_in f k (f x).parent ++ (node_name (f x) ∷ [])))
-      go (yes e) ih = rw (eq_eqb x 1 e) (unfold fresh_from in (ap (λ (i : ℕ). stack_list (f i)) e ∙ c.root_stack))
+      go (yes e) ih = rw (eq-eqb x 1 e) (unfold fresh_from in (ap (λ (i : ℕ). stack_list (f i)) e ∙ c.root_stack))
       go (no e) ih =
           let a : (f x).parent < x = c.parent_less x (r, e) in
           rw (ne_eqb x 1 e)

@@ -9,7 +9,7 @@ use mathlib.Core.Bool.{Bool, true, false, cond}
 use mathlib.Core.List.{List, [], ◌∷◌, map}
 use lib.Dec.{eqb}
 use lib.ListN.{length}
-use borrow.Author.Tests.{eqb-true, eqb-false, eq_eqb}
+use borrow.Author.Tests.{eqb-true, eqb-false, eq-eqb}
 use Rattle.layers.specs.Names.{Name}
 use Rattle.layers.specs.Items.{entries_of, records_of, entry_at, record_at, free_entry}
 use Rattle.layers.specs.Search.{name_of, names, search_of}
@@ -181,7 +181,7 @@ valid_children u l v = children_exist u l (λ k e j p z. ((v k e).ends j).child_
 module _ (u : List ℕ) (v : Valid u) where
   walked_directory : (d : ℕ) → is_walked u d ≡ true → (record_at (records_of u) d).kind ≡ 4
   unfolding is_walked
-  walked_directory d h = eqb-true (record_at (records_of u) d).kind 4 (sym (rw (eq_eqb (length u) 8192 v.size) refl) ∙ h)
+  walked_directory d h = eqb-true (record_at (records_of u) d).kind 4 (sym (rw (eq-eqb (length u) 8192 v.size) refl) ∙ h)
 
   -- a directory has one entry
   entry_once : (d e : ℕ) (x y : Name) (c : ℕ) → c ≢ 0 → is_walked u c ≡ true → named (entries_of u) d x ≡ c → named (entries_of u) e y ≡ c → (d ≡ e) × (x ≡ y)

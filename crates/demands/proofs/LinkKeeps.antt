@@ -10,7 +10,7 @@ use mathlib.Core.List.{List, [], ◌∷◌}
 use lib.Dec.{eqb}
 use lib.ListN.{length, take, set, length-set}
 use lib.Seq.{get_or-set_same, get_or-set_other}
-use borrow.Author.Tests.{eqb-true, eq_eqb, ne_eqb}
+use borrow.Author.Tests.{eqb-true, eq-eqb, ne_eqb}
 use Rattle.layers.specs.Bytes.{AllBytes}
 use Rattle.layers.specs.Names.{Name}
 use Rattle.layers.specs.Change.{entry_naming}
@@ -298,7 +298,7 @@ suffices_same s w a c n m = rw (a, c, n) refl
 module _ (t l s : List ℕ) (v : Valid t) (g : Good t l s) (f : ℕ) (b : f < count_of s) (white : is_white (node_at (nodes_of s) f) ≡ true) where
   marked_not : (node_at (nodes_of s) f).white ≢ 0
   unfolding is_white
-  marked_not z = no_true (sym (ap not (eq_eqb (node_at (nodes_of s) f).white 0 z)) ∙ white)
+  marked_not z = no_true (sym (ap not (eq-eqb (node_at (nodes_of s) f).white 0 z)) ∙ white)
 
   -- is not the root
   white_other : (node_at (nodes_of s) f).number ≢ 1

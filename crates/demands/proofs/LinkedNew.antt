@@ -7,7 +7,7 @@ use mathlib.Core.Bool.{true, false}
 use mathlib.Core.List.{List, [], ◌∷◌}
 use lib.Dec.{eqb}
 use lib.ListN.{length, take}
-use borrow.Author.Tests.{eqb-true, eqb-false, eq_eqb, ne_eqb, not-false, lt-leb}
+use borrow.Author.Tests.{eqb-true, eqb-false, eq-eqb, ne_eqb, not-false, lt-leb}
 use Rattle.layers.specs.Names.{Name}
 use Rattle.layers.specs.Items.{records_of, entries_of, record_at}
 use Rattle.layers.specs.Search.{one, names, search_of, free_entry_place}
@@ -134,7 +134,7 @@ module _ (t : List ℕ) (v : Valid t) (d : ℕ) (walked : is_walked t d ≡ true
 root_some : (t l : List ℕ) → length t ≡ 8192 → root_stack t l ≢ []
 unfolding root_stack roots_from
 root_some t l n z =
-    let e : eqb (length (table_of t l 0)) 8192 ≡ true = eq_eqb (length (table_of t l 0)) 8192 (sym (ap length (table_upper t l 0 refl n)) ∙ n) in
+    let e : eqb (length (table_of t l 0)) 8192 ≡ true = eq-eqb (length (table_of t l 0)) 8192 (sym (ap length (table_upper t l 0 refl n)) ∙ n) in
     let r : pair 0 1 ∷ roots_from t l 1 3 ≡ [] = sym (rw e refl) ∙ z in
     let o : ◌≡◌ {A = ℕ} 0 1 = cc in
     omega arith
@@ -163,7 +163,7 @@ module _ (t l s : List ℕ) (v : Valid t) (g : Good t l s) (j : ℕ) (b : j < co
 
   -- so it is not the root
   source_not_root : source.number ≢ 1
-  source_not_root z = no_true (sym (not_walked some) ∙ (ap (is_walked t) first ∙ (directory_walked t 0 1 v.size ∙ eq_eqb (record_at (records_of t) 1).kind 4 v.root.1)))
+  source_not_root z = no_true (sym (not_walked some) ∙ (ap (is_walked t) first ∙ (directory_walked t 0 1 v.size ∙ eq-eqb (record_at (records_of t) 1).kind 4 v.root.1)))
     where
       by : node_by (nodes_of s) 1 ≡ source
       by = ap (node_by (nodes_of s)) (sym z) ∙ place_by (nodes_of s) g.nodes.once j (rw (length_nodes s) b)

@@ -10,7 +10,7 @@ use mathlib.Core.List.{List, [], ◌∷◌}
 use lib.Dec.{eqb}
 use lib.ListN.{length, set, length-set}
 use lib.Seq.{get_or-set_same, get_or-set_other}
-use borrow.Author.Tests.{eqb-true, eq_eqb}
+use borrow.Author.Tests.{eqb-true, eq-eqb}
 use Rattle.layers.specs.Bytes.{AllBytes}
 use Rattle.layers.specs.Items.{records_of, entries_of, record_at}
 use Rattle.layers.specs.Search.{free_entry_place, free_record_place, used_entries, used_records}
@@ -68,7 +68,7 @@ near_more s (suc m) (suc n) k h r = λ e. near_more s m n (parent_place s k) (om
 -- the upper layer's root is the first of the roots
 roots_upper : (t l : List ℕ) → length t ≡ 8192 → (q : List Pair) × (root_stack t l ≡ pair 0 1 ∷ q)
 unfolding root_stack roots_from
-roots_upper t l h = (roots_from t l 1 3, rw (eq_eqb (length (table_of t l 0)) 8192 (sym (ap length (table_upper t l 0 refl h)) ∙ h)) refl)
+roots_upper t l h = (roots_from t l 1 3, rw (eq-eqb (length (table_of t l 0)) 8192 (sym (ap length (table_upper t l 0 refl h)) ∙ h)) refl)
 
 module _ (t l s : List ℕ) (g : Good t l s) where
   root_holds : (k : ℕ) → k < count_of s → (node_at (nodes_of s) k).number ≡ 1 → stack_list (node_at (nodes_of s) k) ≡ root_stack t l
@@ -84,7 +84,7 @@ module _ (t l s : List ℕ) (g : Good t l s) where
       let f : (q : List Pair) × (stack_list (node_at (nodes_of s) k) ≡ top_of (node_at (nodes_of s) k) ∷ q) = take_first (node_at (nodes_of s) k).depth (node_at (nodes_of s) k).stack (λ z. let o : pair 0 1 ∷ r.0 ≡ [] = sym w ∙ z in let y : ◌≡◌ {A = ℕ} 0 1 = cc in absurd (omega arith)) in
       let o : top_of (node_at (nodes_of s) k) ∷ f.0 ≡ pair 0 1 ∷ r.0 = sym f.1 ∙ w in
       let y : top_of (node_at (nodes_of s) k) ≡ pair 0 1 = cc in
-      eq_eqb (top_of (node_at (nodes_of s) k)).layer 0 (ap (λ (a : Pair). a.layer) y)
+      eq-eqb (top_of (node_at (nodes_of s) k)).layer 0 (ap (λ (a : Pair). a.layer) y)
 
   -- a node's records reach their roots in as many steps as the node
   near_steps : (b k : ℕ) → k < count_of s → (node_at (nodes_of s) k).number < b → (h : ℕ) × Steps t l h (stack_list (node_at (nodes_of s) k)) × Near s h k
@@ -347,7 +347,7 @@ module _ (t l s : List ℕ) (g : Good t l s) (k : ℕ) (b : k < count_of s) (oth
           sound = made_directory_sound u.table l u.state p.good k b_now other_now p.valid p.sound low_now dir_now high_now free.0 free.1 room.0 room.1;
           good = made_directory_good u.table l u.state p.good k b_now other_now p.valid p.sound low_now dir_now high_now free.0 free.1 room.0 room.1;
           bytes = made_bytes;
-          upper = eq_eqb (top_of (node_at (nodes_of made.state) k)).layer 0 (ap (λ (q : Pair). q.layer) top_is);
+          upper = eq-eqb (top_of (node_at (nodes_of made.state) k)).layer 0 (ap (λ (q : Pair). q.layer) top_is);
           count_same = count_is;
           found_same = each_found;
           number_same = each_number;

@@ -8,7 +8,7 @@ use mathlib.Core.Bool.{Bool, true, false, not, cond}
 use mathlib.Core.List.{List, [], ◌∷◌}
 use lib.Dec.{eqb}
 use lib.ListN.{length}
-use borrow.Author.Tests.{eqb-true, eq_eqb, ne_eqb}
+use borrow.Author.Tests.{eqb-true, eq-eqb, ne_eqb}
 use Rattle.layers.specs.Search.{one, count_if}
 use Rattle.layers.specs.Rules.{Valid}
 use Rattle.layers.proofs.EveryLaws.{no_true}
@@ -69,7 +69,7 @@ one_outside b bs (x ∷ xs) n h = go (ℕ_discrete b x) (fewer_outside b bs xs) 
 
     go : Dec (b ≡ x) → count_if (is_outside (b ∷ bs)) xs ≤ count_if (is_outside bs) xs → (is_in b xs ≡ true → count_if (is_outside (b ∷ bs)) xs + 1 ≤ count_if (is_outside bs) xs)
         → one (not (cond (eqb x b) true (is_in x bs))) + count_if (is_outside (b ∷ bs)) xs + 1 ≤ one (not (is_in x bs)) + count_if (is_outside bs) xs
-    go (yes e) f ih = let z : is_in x bs ≡ false = ap (λ (q : ℕ). is_in q bs) (sym e) ∙ n in rw (eq_eqb x b (sym e), z) (omega arith)
+    go (yes e) f ih = let z : is_in x bs ≡ false = ap (λ (q : ℕ). is_in q bs) (sym e) ∙ n in rw (eq-eqb x b (sym e), z) (omega arith)
     go (no e) f ih = step (eqb x b) (is_in x bs) (ih (sym (rw (ne_eqb b x e) refl) ∙ h))
 
 either_covers : (xs bs : List ℕ) → Once bs → count_if (is_outside bs) xs + length bs ≤ length xs + count_if (is_outside xs) bs
@@ -164,7 +164,7 @@ module _ (t l s : List ℕ) (v : Valid t) (g : Good t l s) (k : ℕ) (b : k < co
       go [] e = absurd (in_nil (subst (In above.at) e above.within))
       go (a ∷ q) e =
           let f : (r : List Pair) × (stack_list pn ≡ top_of pn ∷ r) = top_first pn (λ z. let o : a ∷ q ≡ [] = sym e ∙ z in let y : suc (length q) ≡ 0 = ap length o in omega arith) in
-          eq_eqb (top_of pn).layer 0 (within_first (top_of pn) f.0 above.at (subst UpperFirst f.1 first) (subst (In above.at) f.1 above.within) zero_layer)
+          eq-eqb (top_of pn).layer 0 (within_first (top_of pn) f.0 above.at (subst UpperFirst f.1 first) (subst (In above.at) f.1 above.within) zero_layer)
 
 -- ---- the state `w`, in which the node at place `j` and those above it are in the upper layer, where `s` was
 

@@ -8,7 +8,7 @@ use mathlib.Core.Bool.{Bool, true, false, not, cond}
 use mathlib.Core.List.{List, [], ◌∷◌}
 use lib.Dec.{eqb, ltb}
 use lib.ListN.{length}
-use borrow.Author.Tests.{eq_eqb, ne_eqb, ltb-false}
+use borrow.Author.Tests.{eq-eqb, ne_eqb, ltb-false}
 use Rattle.layers.specs.Names.{Name}
 use Rattle.layers.specs.Items.{records_of, entries_of, record_at, entry_at, free_record, free_entry, with_record, with_entry, FitsHead, FitsTail}
 use Rattle.layers.specs.Search.{first_from, one, count_if, is_free, no_record, names_record, naming, free_entry_place, free_record_place, used_entries, used_records}
@@ -168,7 +168,7 @@ module _ (es : List Entry) (j c : ℕ) (u : Used es j) (q : (entry_at es j).chil
       go : Dec (naming c es ≡ 1) → used_records (records_left rs (entries_left es j) c) + one (eqb (naming c es) 1) ≡ used_records rs
       go (yes e) =
           let z : naming c (entries_left es j) ≡ 0 = omega (arith, naming_falls) in
-          rw (eq_eqb (naming c es) 1 e, records_left_unnamed rs (entries_left es j) c z) (record_given rs c free_record lo hi (is_present (record_at rs c) p) refl)
+          rw (eq-eqb (naming c es) 1 e, records_left_unnamed rs (entries_left es j) c z) (record_given rs c free_record lo hi (is_present (record_at rs c) p) refl)
       go (no o) =
           let z : naming c (entries_left es j) ≢ 0 = λ y. o (omega (arith, naming_falls)) in
           rw (ne_eqb (naming c es) 1 o, records_left_named rs (entries_left es j) c z) (omega arith)

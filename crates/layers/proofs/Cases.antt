@@ -3,7 +3,7 @@ use mathlib.Core.Path.{◌≡◌, refl, sym, ap, ◌∙◌}
 use Prim.Native.Nat.{ℕ, ◌≤◌, ◌<◌}
 use mathlib.Core.Bool.{Bool, true, false, cond}
 use lib.Dec.{eqb, ltb, leb}
-use borrow.Author.Tests.{eq_eqb, ne_eqb, lt-ltb, le-ltb, le-leb, lt-leb}
+use borrow.Author.Tests.{eq-eqb, ne_eqb, lt-ltb, le-ltb, le-leb, lt-leb}
 
 module _ {A : Type 0} (z x y : A) where
   pub if_true : (t : Bool) → t ≡ true → z ≡ x → z ≡ cond t x y
@@ -21,7 +21,7 @@ module _ {A : Type 0} (z x y : A) where
 
   module _ (a b : ℕ) where
     pub if_eq : a ≡ b → z ≡ x → z ≡ cond (eqb a b) x y
-    if_eq h = if_true (eqb a b) (eq_eqb a b h)
+    if_eq h = if_true (eqb a b) (eq-eqb a b h)
 
     pub if_ne : (a ≡ b → ⊥) → z ≡ y → z ≡ cond (eqb a b) x y
     if_ne h = if_false (eqb a b) (ne_eqb a b h)

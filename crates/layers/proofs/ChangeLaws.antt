@@ -9,7 +9,7 @@ use mathlib.Core.List.{List, [], ◌∷◌}
 use lib.Dec.{eqb}
 use lib.ListN.{length, get_or, set, get_or-eq_default}
 use lib.Seq.{get_or-set_same, get_or-set_other}
-use borrow.Author.Tests.{eq_eqb, ne_eqb, eqb-true, eqb-false}
+use borrow.Author.Tests.{eq-eqb, ne_eqb, eqb-true, eqb-false}
 use Rattle.layers.specs.Items.{records_of, entries_of, record_at, entry_at, free_record, free_entry, with_record, with_entry, record_put, entry_put, PutRecord, PutEntry}
 use Rattle.layers.specs.Names.{Name}
 use Rattle.layers.specs.Search.{first_from, one, count_if, names, search_of, is_free, no_record, names_record, naming, free_entry_place, free_record_place}
@@ -228,7 +228,7 @@ module _ (rs : List Record) (es : List Entry) (c : ℕ) where
 
   pub records_left_unnamed : naming c es ≡ 0 → records_left rs es c ≡ with_record rs c free_record
   unfolding records_left
-  records_left_unnamed e = rw (eq_eqb (naming c es) 0 e) refl
+  records_left_unnamed e = rw (eq-eqb (naming c es) 0 e) refl
 
   pub records_left_other : (q : ℕ) → q ≢ c → record_at (records_left rs es c) q ≡ record_at rs q
   unfolding records_left
@@ -245,7 +245,7 @@ module _ (t : List ℕ) (c : ℕ) where
 
   pub record_left_unnamed : naming c (entries_of t) ≡ 0 → record_left t c ≡ record_put t c free_record
   unfolding record_left
-  record_left_unnamed e = rw (eq_eqb (naming c (entries_of t)) 0 e) refl
+  record_left_unnamed e = rw (eq-eqb (naming c (entries_of t)) 0 e) refl
 
 -- ---- as the code changes a table
 
@@ -286,7 +286,7 @@ module _ (t u : List ℕ) (c n : ℕ) (q : n ≡ naming c (entries_of t)) where
 module _ (t : List ℕ) (j p : ℕ) (q : p ≡ (entry_at (entries_of t) j).parent) where
   pub not_dropped : p ≡ 0 → DropEntry t j t
   unfolding is_free dropped_entry
-  not_dropped z = record { bytes = rw (eq_eqb (entry_at (entries_of t) j).parent 0 (sym q ∙ z)) refl; entries = rw (eq_eqb (entry_at (entries_of t) j).parent 0 (sym q ∙ z)) refl; records = rw (eq_eqb (entry_at (entries_of t) j).parent 0 (sym q ∙ z)) refl }
+  not_dropped z = record { bytes = rw (eq-eqb (entry_at (entries_of t) j).parent 0 (sym q ∙ z)) refl; entries = rw (eq-eqb (entry_at (entries_of t) j).parent 0 (sym q ∙ z)) refl; records = rw (eq-eqb (entry_at (entries_of t) j).parent 0 (sym q ∙ z)) refl }
 
   pub dropped : (u v : List ℕ) (c : ℕ) (e : Entry) → (p ≡ 0 → ⊥) → c ≡ (entry_at (entries_of t) j).child → e ≡ free_entry → PutEntry t j e u → FreedRecord u c v → DropEntry t j v
   unfolding is_free dropped_entry

@@ -10,7 +10,7 @@ use mathlib.Core.List.{List, [], ◌∷◌}
 use lib.Dec.{eqb}
 use lib.ListN.{length, drop, get_or, set, replicate, length-set, length-drop, length-replicate}
 use lib.Seq.{drop-cons, get_or-drop, get_or-set_same, get_or-set_other}
-use borrow.Author.Tests.{eq_eqb, ne_eqb}
+use borrow.Author.Tests.{eq-eqb, ne_eqb}
 use Rattle.layers.specs.Items.{entry_at, free_entry}
 use Rattle.layers.specs.Search.{one, count_if, names_record, naming}
 use Rattle.layers.specs.Rules.{parent_of}
@@ -32,7 +32,7 @@ module _ (es : List Entry) (a : List ℕ) (j n : ℕ) (l : length es ≡ n) (h :
   module _ (z : p ≡ 0) where
     none_here : (r : ℕ) → names_record r (entry_at es j) ≡ false
     unfolding names_record
-    none_here r = rw (eq_eqb (entry_at es j).parent 0 (sym p-is ∙ z)) refl
+    none_here r = rw (eq-eqb (entry_at es j).parent 0 (sym p-is ∙ z)) refl
 
     pub counted_free : Counted (drop (j + 1) es) a → Counted (drop j es) a
     unfolding one
@@ -54,7 +54,7 @@ module _ (es : List Entry) (a : List ℕ) (j n : ℕ) (l : length es ≡ n) (h :
         go r b (yes e) =
             let k : length a ≡ 256 = g.sized in
             let m : get_or a r 0 ≡ naming r (drop (j + 1) es) = g.counts r b in
-            rw (naming_step r, names_here r, eq_eqb w r e, e) (get_or-set_same a r (get_or a r 0 + 1) 0 (omega arith) ∙ omega arith)
+            rw (naming_step r, names_here r, eq-eqb w r e, e) (get_or-set_same a r (get_or a r 0 + 1) 0 (omega arith) ∙ omega arith)
         go r b (no e) = rw (naming_step r, names_here r, ne_eqb w r e) (get_or-set_other a w r (get_or a w 0 + 1) 0 (λ q. e (sym q)) ∙ (g.counts r b ∙ sym (zero-add (naming r (drop (j + 1) es)))))
 
     pub parented_used : Parented (drop (j + 1) es) a → Parented (drop j es) (set a w p)
@@ -63,7 +63,7 @@ module _ (es : List Entry) (a : List ℕ) (j n : ℕ) (l : length es ≡ n) (h :
         go : (r : ℕ) → r < 256 → Dec (w ≡ r) → get_or (set a w p) r 0 ≡ parent_of (drop j es) r
         go r b (yes e) =
             let k : length a ≡ 256 = g.sized in
-            rw (parent_step r, names_here r, eq_eqb w r e, e) (get_or-set_same a r p 0 (omega arith) ∙ p-is)
+            rw (parent_step r, names_here r, eq-eqb w r e, e) (get_or-set_same a r p 0 (omega arith) ∙ p-is)
         go r b (no e) = rw (parent_step r, names_here r, ne_eqb w r e) (get_or-set_other a w r p 0 (λ q. e (sym q)) ∙ g.parents r b)
 
 -- a count fits its byte

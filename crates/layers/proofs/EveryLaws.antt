@@ -9,7 +9,7 @@ use mathlib.Core.List.{List, [], ◌∷◌}
 use lib.Dec.{eqb, ltb, leb}
 use lib.ListN.{length, drop, get_or, get_or-eq_default}
 use lib.Seq.{drop-cons}
-use borrow.Author.Tests.{eq_eqb, eqb-true, eqb-false, ltb-true, ltb-false, le-leb, leb-true}
+use borrow.Author.Tests.{eq-eqb, eqb-true, eqb-false, ltb-true, ltb-false, le-leb, leb-true}
 use Rattle.layers.specs.Rules.{Exactly, every}
 
 pub no_true : {A : Type 0} → false ≡ true → A
@@ -88,7 +88,7 @@ every_both p q k (x ∷ xs) = go (p k x) (q k x) (every p (suc k) xs) (every q (
 -- ---- tests that are exact
 
 pub eqb_exactly : (a b : ℕ) → Exactly (eqb a b) (a ≡ b)
-eqb_exactly a b = record { sound = eqb-true a b; whole = eq_eqb a b }
+eqb_exactly a b = record { sound = eqb-true a b; whole = eq-eqb a b }
 
 pub leb_exactly : (a b : ℕ) → Exactly (leb a b) (a ≤ b)
 leb_exactly a b = record { sound = leb-true a b; whole = le-leb a b }

@@ -4,7 +4,7 @@ use Prim.Native.Nat.{ℕ, zero, suc, ◌+◌, ◌*◌, ◌-◌, ◌^◌, ◌≤�
 use native.Mathlib.Omega.{arith}
 use native.Mathlib.Nat.{add_assoc}
 use lib.Seq.{drop-drop, take_all, set_out}
-use borrow.Author.Tests.{eq_eqb, ne_eqb, lt-ltb, le-ltb}
+use borrow.Author.Tests.{eq-eqb, ne_eqb, lt-ltb, le-ltb}
 use mathlib.Core.List.{List, [], ◌∷◌, ◌++◌, map}
 use lib.ListN.{length, take, drop, get_or, set, replicate, length-append, length-take, length-drop, length-map, get_or-eq_default}
 use Rattle.layers.specs.Bytes.{part, over, le_of, le_bytes, number_at, laid, AllBytes}
@@ -114,7 +114,7 @@ length_entry e h = simp (h) refl
 module _ (t : List ℕ) (i : ℕ) (r : Record) where
   pub record_put_none : i ≡ 0 → t ≡ record_put t i r
   unfolding record_put
-  record_put_none h = rw (eq_eqb i 0 h) refl
+  record_put_none h = rw (eq-eqb i 0 h) refl
 
   pub record_put_past : 128 < i → t ≡ record_put t i r
   unfolding record_put

@@ -8,7 +8,7 @@ use mathlib.Core.List.{List, [], ◌∷◌}
 use lib.ListN.{length, drop, get_or, drop_of_length-le}
 use lib.Seq.{drop-cons}
 use lib.Dec.{eqb, ltb}
-use borrow.Author.Tests.{eq_eqb, ne_eqb, eqb-true, lt-ltb, le-ltb}
+use borrow.Author.Tests.{eq-eqb, ne_eqb, eqb-true, lt-ltb, le-ltb}
 use Rattle.layers.specs.Names.{Name, same_name, holds, malformed_name, order_of}
 use Rattle.layers.specs.declared.names.Order.{Order}
 use Rattle.layers.specs.declared.names.Order.TheVariants.{Before, Same, After}
@@ -27,7 +27,7 @@ same_true (x ∷ xs) (y ∷ ys) h = go (eqb x y) refl (same_true xs ys) h
 pub same_refl : (a : Name) → same_name a a ≡ true
 unfolding same_name
 same_refl [] = refl
-same_refl (x ∷ xs) = rw (eq_eqb x x refl) (same_refl xs)
+same_refl (x ∷ xs) = rw (eq-eqb x x refl) (same_refl xs)
 
 -- names of two lengths are not the same
 pub same_lengths : (a b : Name) → (length a ≡ length b → ⊥) → false ≡ same_name a b
@@ -49,7 +49,7 @@ module _ (a b : Name) (i : ℕ) (ia : i < length a) (ib : i < length b) where
 
 module _ (a b : Name) (i : ℕ) (ia : i < length a) where
   pub same_next : length a ≡ length b → (get_or a i 0 ≡ get_or b i 0) → same_name (drop i a) (drop i b) ≡ same_name a b → same_name (drop (i + 1) a) (drop (i + 1) b) ≡ same_name a b
-  same_next l e h = rw (add-one i) (sym (rw (eq_eqb (get_or a i 0) (get_or b i 0) e) at (same_step a b i ia (omega arith))) ∙ h)
+  same_next l e h = rw (add-one i) (sym (rw (eq-eqb (get_or a i 0) (get_or b i 0) e) at (same_step a b i ia (omega arith))) ∙ h)
 
   pub same_not : length a ≡ length b → (get_or a i 0 ≡ get_or b i 0 → ⊥) → same_name (drop i a) (drop i b) ≡ same_name a b → false ≡ same_name a b
   same_not l e h = sym (rw (ne_eqb (get_or a i 0) (get_or b i 0) e) at (same_step a b i ia (omega arith))) ∙ h
@@ -65,7 +65,7 @@ module _ (x : Name) (b i : ℕ) where
 
   pub holds_here : i < length x → get_or x i 0 ≡ b → holds b (drop i x) ≡ holds b x → true ≡ holds b x
   unfolding holds
-  holds_here l e h = sym (rw (drop-cons x i 0 l, eq_eqb (get_or x i 0) b e) refl) ∙ h
+  holds_here l e h = sym (rw (drop-cons x i 0 l, eq-eqb (get_or x i 0) b e) refl) ∙ h
 
   pub holds_end : length x ≤ i → holds b (drop i x) ≡ holds b x → false ≡ holds b x
   unfolding holds

@@ -6,7 +6,7 @@ use native.Mathlib.Numerals.{add-one}
 use mathlib.Core.List.{List, [], ◌∷◌, ◌++◌, append_assoc, append-nil}
 use mathlib.Core.Bool.{Bool, true, false, cond}
 use lib.Dec.{leb, ltb}
-use borrow.Author.Tests.{eq_eqb, ne_eqb, le-leb, lt-leb, lt-ltb, le-ltb, leb-false, ltb-false}
+use borrow.Author.Tests.{eq-eqb, ne_eqb, le-leb, lt-leb, lt-ltb, le-ltb, leb-false, ltb-false}
 use lib.ListN.{length, take, drop, get_or, set, length-append, length-take, length-drop, take-append-drop, get_or-append, drop_of_length-le}
 use Rattle.layers.proofs.Runs.{drop_take}
 use lib.Seq.{take-take, take-suc, drop-cons, append_snoc, set_at, take_at, drop_at, get_or-take, length-take-le}
@@ -35,7 +35,7 @@ pub move_end : (u p : List ℕ) (n i k q : ℕ) → u ≡ moved p n k → i ≤ 
 unfolding put_in
 move_end u p n i k q e g h m o l =
     let s : k ≡ i = omega arith in
-    rw (e, s, eq_eqb (length p) 512 o, lt-leb 512 n l, le-ltb n i (omega arith)) (set_head p (part p i (n - i) ++ drop (suc n) p) i q (omega arith))
+    rw (e, s, eq-eqb (length p) 512 o, lt-leb 512 n l, le-ltb n i (omega arith)) (set_head p (part p i (n - i) ++ drop (suc n) p) i q (omega arith))
 
 pub no_places : (p : List ℕ) (n i q : ℕ) → (length p ≡ 512 → ⊥) → p ≡ put_in p n i q
 unfolding put_in
@@ -43,15 +43,15 @@ no_places p n i q h = rw (ne_eqb (length p) 512 h) refl
 
 pub no_room : (p : List ℕ) (n i q : ℕ) → length p ≡ 512 → 512 ≤ n → p ≡ put_in p n i q
 unfolding put_in
-no_room p n i q l h = rw (eq_eqb (length p) 512 l, le-leb 512 n h) refl
+no_room p n i q l h = rw (eq-eqb (length p) 512 l, le-leb 512 n h) refl
 
 pub no_place_lem : (p : List ℕ) (n i q : ℕ) → length p ≡ 512 → n < 512 → n < i → p ≡ put_in p n i q
 unfolding put_in
-no_place_lem p n i q l m h = rw (eq_eqb (length p) 512 l, lt-leb 512 n m, lt-ltb n i h) refl
+no_place_lem p n i q l m h = rw (eq-eqb (length p) 512 l, lt-leb 512 n m, lt-ltb n i h) refl
 
 pub length_put_in : (p : List ℕ) (n i q : ℕ) → length p ≡ 512 → length (put_in p n i q) ≡ 512
 unfolding put_in
-length_put_in p n i q l = rw (eq_eqb (length p) 512 l) (go (leb 512 n) refl (ltb n i) refl)
+length_put_in p n i q l = rw (eq-eqb (length p) 512 l) (go (leb 512 n) refl (ltb n i) refl)
   where
     go : (a : Bool) → leb 512 n ≡ a → (b : Bool) → ltb n i ≡ b → length (cond a p (cond b p (inserted p n i q))) ≡ 512
     go true x b y = l
@@ -121,7 +121,7 @@ module _ (f : ℕ → Name) (p : List ℕ) (n : ℕ) (q : ℕ) (x : Name) (x-is 
 
     put_at : put_in p n i q ≡ inserted p n i q
     unfolding put_in
-    put_at = rw (eq_eqb (length p) 512 l, lt-leb 512 n b, le-ltb n i insert_below) refl
+    put_at = rw (eq-eqb (length p) 512 l, lt-leb 512 n b, le-ltb n i insert_below) refl
 
     pub insert_free : (u : List ℕ) → u ≡ put_in p n i q → take (n + 1) u ≡ insert_by f q (take n p)
     insert_free u w =

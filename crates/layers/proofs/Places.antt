@@ -6,7 +6,7 @@ use native.Mathlib.Nat.{add_assoc, add-zero, add-suc, suc-add}
 use native.Mathlib.Numerals.{add-one}
 use Rattle.layers.proofs.Runs.{drop_take}
 use mathlib.Core.Bool.{Bool, true, false, not, cond}
-use borrow.Author.Tests.{eq_eqb, ne_eqb}
+use borrow.Author.Tests.{eq-eqb, ne_eqb}
 use mathlib.Core.List.{List, [], ◌∷◌}
 use lib.Dec.{eqb}
 use lib.ListN.{length, take, drop, get_or, drop_of_length-le, length-take, length-drop}
@@ -149,7 +149,7 @@ module _ {A : Type 0} (p : A → Bool) (xs : List A) (d : A) (i n m : ℕ) where
 module _ (a r : ℕ) (q : r ≡ a) where
   pub one_free : r ≡ 0 → 0 ≡ one (not (eqb a 0))
   unfolding one
-  one_free h = rw (eq_eqb a 0 (sym q ∙ h)) refl
+  one_free h = rw (eq-eqb a 0 (sym q ∙ h)) refl
 
   pub one_used : (r ≡ 0 → ⊥) → 1 ≡ one (not (eqb a 0))
   unfolding one
@@ -157,12 +157,12 @@ module _ (a r : ℕ) (q : r ≡ a) where
 
   pub names_none : (b n : ℕ) → r ≡ 0 → 0 ≡ one (cond (eqb a 0) false (eqb b n))
   unfolding one
-  names_none b n h = rw (eq_eqb a 0 (sym q ∙ h)) refl
+  names_none b n h = rw (eq-eqb a 0 (sym q ∙ h)) refl
 
   module _ (b s n : ℕ) (p : s ≡ b) (h : r ≡ 0 → ⊥) where
     pub names_one : s ≡ n → 1 ≡ one (cond (eqb a 0) false (eqb b n))
     unfolding one
-    names_one e = rw (ne_eqb a 0 (λ z. h (q ∙ z)), eq_eqb b n (sym p ∙ e)) refl
+    names_one e = rw (ne_eqb a 0 (λ z. h (q ∙ z)), eq-eqb b n (sym p ∙ e)) refl
 
     pub names_other : (s ≡ n → ⊥) → 0 ≡ one (cond (eqb a 0) false (eqb b n))
     unfolding one

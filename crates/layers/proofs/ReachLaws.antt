@@ -7,7 +7,7 @@ use native.Mathlib.Decide.{ℕ_discrete}
 use mathlib.Core.Bool.{Bool, true, false, cond}
 use mathlib.Core.List.{List, [], ◌∷◌}
 use lib.Dec.{eqb}
-use borrow.Author.Tests.{eq_eqb, ne_eqb, eqb-true}
+use borrow.Author.Tests.{eq-eqb, ne_eqb, eqb-true}
 use Rattle.layers.specs.Items.{record_at, entry_at}
 use Rattle.layers.specs.Search.{names_record}
 use Rattle.layers.specs.Rules.{Exactly, Used, NamesAt, NamedOnce, Reaches, at_root, up, DirectoryReachesRoot, parent_of, climbs, reach_test}
@@ -51,8 +51,8 @@ module _ (es : List Entry) where
 
   climbs_root : (n r : ℕ) → r ≡ 1 → climbs n es r ≡ true
   unfolding climbs
-  climbs_root zero r h = eq_eqb r 1 h
-  climbs_root (suc n) r h = rw (eq_eqb r 1 h) refl
+  climbs_root zero r h = eq-eqb r 1 h
+  climbs_root (suc n) r h = rw (eq-eqb r 1 h) refl
 
   climbs_up : (n r : ℕ) → (r ≡ 1 → ⊥) → (r ≡ 0 → ⊥) → climbs (suc n) es r ≡ climbs n es (parent_of es r)
   unfolding climbs

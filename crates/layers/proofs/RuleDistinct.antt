@@ -7,7 +7,7 @@ use mathlib.Core.Bool.{Bool, true, false, cond}
 use mathlib.Core.List.{List}
 use lib.Dec.{eqb, ltb}
 use lib.ListN.{length, get_or-eq_default}
-use borrow.Author.Tests.{eq_eqb, ne_eqb, eqb-true, ltb-true, ltb-false}
+use borrow.Author.Tests.{eq-eqb, ne_eqb, eqb-true, ltb-true, ltb-false}
 use Rattle.layers.specs.Items.{entry_at, free_entry}
 use Rattle.layers.specs.Names.{Name}
 use Rattle.layers.specs.Search.{names, name_of, search_of}
@@ -46,13 +46,13 @@ module _ (es : List Entry) where
   once_whole g j = go (ℕ_discrete (entry_at es j).parent 0)
     where
       go : Dec ((entry_at es j).parent ≡ 0) → cond (eqb (entry_at es j).parent 0) true (is_place j (search_of es (entry_at es j).parent (name_of (entry_at es j)))) ≡ true
-      go (yes z) = rw (eq_eqb (entry_at es j).parent 0 z) refl
+      go (yes z) = rw (eq-eqb (entry_at es j).parent 0 z) refl
       go (no z) =
           let t : (k : ℕ) × (search_of es (entry_at es j).parent (name_of (entry_at es j)) ≡ At (0 + k)) × (names (entry_at es j).parent (name_of (entry_at es j)) (entry_at es k) ≡ true) =
           first_found (names (entry_at es j).parent (name_of (entry_at es j))) free_entry 0 es j (used_inside j z) ((names_exactly (entry_at es j).parent (name_of (entry_at es j)) (entry_at es j)).whole (z, (refl, refl))) in
           let n : ((entry_at es t.0).parent ≡ 0 → ⊥) × (((entry_at es t.0).parent ≡ (entry_at es j).parent) × (name_of (entry_at es t.0) ≡ name_of (entry_at es j))) =
           (names_exactly (entry_at es j).parent (name_of (entry_at es j)) (entry_at es t.0)).sound t.2 in
-          rw (ne_eqb (entry_at es j).parent 0 z, t.1) (eq_eqb (0 + t.0) j (zero-add t.0 ∙ g t.0 j n.0 z n.1.0 n.1.1))
+          rw (ne_eqb (entry_at es j).parent 0 z, t.1) (eq-eqb (0 + t.0) j (zero-add t.0 ∙ g t.0 j n.0 z n.1.0 n.1.1))
 
   pub distinct_exactly : Exactly (distinct_test es) (NamesAreDistinct es)
   distinct_exactly = again (every_exactly (once_test es) free_entry (λ _. unfold once_test in refl) es) two once_whole

@@ -8,7 +8,7 @@ use mathlib.Core.List.{List}
 use lib.Dec.{eqb, leb}
 use lib.ListN.{length, take, drop, get_or, drop_of_length-le, length-take, length-drop}
 use lib.Seq.{drop-cons, take_all}
-use borrow.Author.Tests.{eq_eqb, ne_eqb, not-true, not-false, le-leb, lt-leb}
+use borrow.Author.Tests.{eq-eqb, ne_eqb, not-true, not-false, le-leb, lt-leb}
 use Rattle.layers.specs.Names.{malformed_name}
 use Rattle.layers.specs.Kinds.{kind_of}
 use Rattle.layers.specs.Items.{record_at}
@@ -28,7 +28,7 @@ kind_shown n k m b p q h = h ∙ ap is_kind (sym q ∙ p)
 module _ (x : List ℕ) (i : ℕ) where
   pub zero_next : i < length x → get_or x i 0 ≡ 0 → all_zero (drop i x) ≡ all_zero x → all_zero (drop (i + 1) x) ≡ all_zero x
   unfolding all_zero
-  zero_next l e h = rw (add-one i) (sym (rw (drop-cons x i 0 l, eq_eqb (get_or x i 0) 0 e) refl) ∙ h)
+  zero_next l e h = rw (add-one i) (sym (rw (drop-cons x i 0 l, eq-eqb (get_or x i 0) 0 e) refl) ∙ h)
 
   pub zero_not : i < length x → (get_or x i 0 ≡ 0 → ⊥) → all_zero (drop i x) ≡ all_zero x → false ≡ all_zero x
   unfolding all_zero
@@ -126,7 +126,7 @@ module _ (rs : List Record) (es : List Entry) (i k : ℕ) (k-is : k ≡ (record_
 
   pub reach_start : k ≡ 4 → climbs 16 es i ≡ reach_test es i (record_at rs i)
   unfolding reach_test
-  reach_start h = rw (eq_eqb (record_at rs i).kind 4 (sym k-is ∙ h)) refl
+  reach_start h = rw (eq-eqb (record_at rs i).kind 4 (sym k-is ∙ h)) refl
 
 module _ (es : List Entry) (n q : ℕ) (b : Bool) where
   pub climb_here : 0 < n → q ≡ 1 → climbs n es q ≡ b → true ≡ b
@@ -135,7 +135,7 @@ module _ (es : List Entry) (n q : ℕ) (b : Bool) where
     where
       go : (n : ℕ) → 0 < n → climbs n es q ≡ b → true ≡ b
       go zero h w = absurd (omega arith)
-      go (suc m) h w = sym (rw (eq_eqb q 1 e) refl) ∙ w
+      go (suc m) h w = sym (rw (eq-eqb q 1 e) refl) ∙ w
 
   pub climb_none : 0 < n → (q ≡ 1 → ⊥) → q ≡ 0 → climbs n es q ≡ b → false ≡ b
   unfolding climbs
@@ -143,7 +143,7 @@ module _ (es : List Entry) (n q : ℕ) (b : Bool) where
     where
       go : (n : ℕ) → 0 < n → climbs n es q ≡ b → false ≡ b
       go zero h w = absurd (omega arith)
-      go (suc m) h w = sym (rw (ne_eqb q 1 e, eq_eqb q 0 z) refl) ∙ w
+      go (suc m) h w = sym (rw (ne_eqb q 1 e, eq-eqb q 0 z) refl) ∙ w
 
   pub climb_next : (p : List ℕ) (w : ℕ) → 0 < n → (q ≡ 1 → ⊥) → (q ≡ 0 → ⊥) → q < 256 → Parented es p → w ≡ get_or p q 0 → climbs n es q ≡ b → climbs (n - 1) es w ≡ b
   unfolding climbs

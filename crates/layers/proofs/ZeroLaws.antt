@@ -7,7 +7,7 @@ use mathlib.Core.List.{List, [], ◌∷◌, ◌++◌}
 use lib.Dec.{eqb}
 use lib.ListN.{length, take, drop, get_or, replicate, take-append-drop, drop_of_length-le, length-take, length-drop}
 use lib.Seq.{drop-cons, drop-drop, take_all}
-use borrow.Author.Tests.{eq_eqb, ne_eqb, eqb-true, eqb-false}
+use borrow.Author.Tests.{eq-eqb, ne_eqb, eqb-true, eqb-false}
 use Rattle.layers.specs.Bytes.{part, le_of, number_at}
 use Rattle.layers.specs.Names.{same_name}
 use Rattle.layers.specs.Items.{record_of, entry_of, records_of, entries_of, record_at, entry_at, free_record, free_entry}
@@ -20,13 +20,13 @@ use Rattle.layers.proofs.Numbers.{number_in}
 use Rattle.layers.proofs.ItemLaws.{entry_is, record_is, entry_past, record_past}
 
 scaled : (b n : ℕ) → b ≡ 0 → eqb (b + 256 * n) 0 ≡ eqb n 0
-scaled b zero h = eq_eqb (b + 256 * 0) 0 (omega arith) ∙ sym (eq_eqb 0 0 refl)
+scaled b zero h = eq-eqb (b + 256 * 0) 0 (omega arith) ∙ sym (eq-eqb 0 0 refl)
 scaled b (suc n) h = ne_eqb (b + 256 * suc n) 0 (λ e. omega arith) ∙ sym (ne_eqb (suc n) 0 (λ e. omega arith))
 
 -- a number is 0 exactly where its bytes are
 zero_number : (bs : List ℕ) → eqb (le_of bs) 0 ≡ all_zero bs
 unfolding le_of all_zero
-zero_number [] = eq_eqb 0 0 refl
+zero_number [] = eq-eqb 0 0 refl
 zero_number (b ∷ bs) = go (eqb b 0) refl (zero_number bs)
   where
     go : (t : Bool) → eqb b 0 ≡ t → eqb (le_of bs) 0 ≡ all_zero bs → eqb (b + 256 * le_of bs) 0 ≡ cond t (all_zero bs) false
@@ -72,7 +72,7 @@ module _ (x : List ℕ) (i r : ℕ) (l : i + 8 ≤ length x) (p : r ≡ number_a
       ∙ (sym (by_number x i (all_zero (drop (i + 8) x)) 8 refl) ∙ w)
 
   pub zero_word_next : r ≡ 0 → all_zero (drop (i + 8) x) ≡ all_zero x
-  zero_word_next h = zero_step true (eq_eqb r 0 h)
+  zero_word_next h = zero_step true (eq-eqb r 0 h)
 
   pub zero_word_not : (r ≡ 0 → ⊥) → false ≡ all_zero x
   zero_word_not h = zero_step false (ne_eqb r 0 h)
@@ -82,7 +82,7 @@ zero_record : (b : List ℕ) → length b ≡ 32 → get_or b 0 0 ≡ 0 → all_
 unfolding free_record_test record_of
 zero_record b l z =
     by_byte b 0 _ (omega arith) refl
-    ∙ (ap (λ (t : Bool). cond t (all_zero (drop 1 b)) false) (eq_eqb (get_or b 0 0) 0 z)
+    ∙ (ap (λ (t : Bool). cond t (all_zero (drop 1 b)) false) (eq-eqb (get_or b 0 0) 0 z)
     ∙ by_byte b 1 _ (omega arith)
     (by_byte b 2 _ (omega arith)
     (by_byte b 3 _ (omega arith)
@@ -101,7 +101,7 @@ zero_entry b l z =
     let name : all_zero (drop 4 b) ≡ same_name (part b 4 28) (replicate 28 0) =
     ap all_zero (sym (take_all 28 (drop 4 b) (simp length-drop (omega arith)))) ∙ (zero_name (part b 4 28) ∙ ap (λ (k : ℕ). same_name (part b 4 28) (replicate k 0)) n) in
     by_byte b 0 _ (omega arith) refl
-    ∙ (ap (λ (t : Bool). cond t (all_zero (drop 1 b)) false) (eq_eqb (get_or b 0 0) 0 z)
+    ∙ (ap (λ (t : Bool). cond t (all_zero (drop 1 b)) false) (eq-eqb (get_or b 0 0) 0 z)
     ∙ by_byte b 1 _ (omega arith) (by_byte b 2 _ (omega arith) (by_byte b 3 _ (omega arith) name)))
 
 -- ---- what the rules ask of a free place is that it is zeros
@@ -117,7 +117,7 @@ told r a b p q = sym p ∙ q
 module _ (rs : List Record) (j : ℕ) (e : Entry) (b : Bool) (p : ℕ) where
   pub free_entry_holds : p ≡ e.parent → p ≡ 0 → b ≡ free_entry_test e → b ≡ entry_holds rs j e
   unfolding entry_holds entry_test ends_test
-  free_entry_holds q z h = h ∙ sym (rw (eq_eqb e.parent 0 (sym q ∙ z)) (cond_self (free_entry_test e)))
+  free_entry_holds q z h = h ∙ sym (rw (eq-eqb e.parent 0 (sym q ∙ z)) (cond_self (free_entry_test e)))
 
 module _ (es : List Entry) (i : ℕ) (r : Record) (b : Bool) (n : ℕ) where
   pub free_record_holds : n ≡ r.number → n ≡ 0 → b ≡ free_record_test r → b ≡ record_holds es i r
@@ -126,7 +126,7 @@ module _ (es : List Entry) (i : ℕ) (r : Record) (b : Bool) (n : ℕ) where
       h ∙ (go (eqb r.kind 0) refl ∙ ap (λ (t : Bool). cond t (cond (count_test (naming i es) i r) (reach_test es i r) false) false) (sym test))
     where
       none : eqb r.number 0 ≡ true
-      none = eq_eqb r.number 0 (sym q ∙ z)
+      none = eq-eqb r.number 0 (sym q ∙ z)
 
       test : record_test i r ≡ free_record_test r
       test = rw none refl

@@ -9,7 +9,7 @@ use lib.Bits.{bit_and, bit_or, or_add_and, and_le_l, and_le_r}
 use lib.Dec.{eqb}
 use lib.ListN.{length, take, drop, get_or, replicate, take-append-drop, drop_of_length-le}
 use lib.Seq.{drop-cons, drop-drop}
-use borrow.Author.Tests.{eq_eqb, ne_eqb, eqb-true, eqb-false, not-false}
+use borrow.Author.Tests.{eq-eqb, ne_eqb, eqb-true, eqb-false, not-false}
 use Rattle.layers.specs.Rules.{all_zero}
 use Rattle.layers.proofs.EveryLaws.{no_true}
 use Rattle.layers.proofs.ZeroLaws.{zeros_append}
@@ -20,7 +20,7 @@ none_of : (o n a b : ℕ) → o + n ≡ a + b → n ≤ a → n ≤ b → eqb o 
 none_of o n a b s p q = go (eqb a 0) (eqb b 0) refl refl
   where
     go : (x y : Bool) → eqb a 0 ≡ x → eqb b 0 ≡ y → eqb o 0 ≡ cond x y false
-    go true true e f = let a-is : a ≡ 0 = eqb-true a 0 e in let b-is : b ≡ 0 = eqb-true b 0 f in eq_eqb o 0 (omega arith)
+    go true true e f = let a-is : a ≡ 0 = eqb-true a 0 e in let b-is : b ≡ 0 = eqb-true b 0 f in eq-eqb o 0 (omega arith)
     go true false e f = let a-is : a ≡ 0 = eqb-true a 0 e in let b-is : (b ≡ 0 → ⊥) = eqb-false b 0 f in ne_eqb o 0 (λ z. omega arith)
     go false y e f = let a-is : (a ≡ 0 → ⊥) = eqb-false a 0 e in ne_eqb o 0 (λ z. omega arith)
 

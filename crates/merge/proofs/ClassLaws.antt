@@ -6,7 +6,7 @@ use mathlib.Core.Bool.{Bool, true, false, cond}
 use mathlib.Core.List.{List}
 use lib.Dec.{eqb}
 use lib.ListN.{length}
-use borrow.Author.Tests.{eqb-true, eq_eqb, ne_eqb}
+use borrow.Author.Tests.{eqb-true, eq-eqb, ne_eqb}
 use Rattle.layers.specs.Names.{Name}
 use Rattle.layers.specs.Items.{entries_of, records_of, entry_at, record_at}
 use Rattle.layers.specs.Search.{search_of}
@@ -125,7 +125,7 @@ module _ (t : List ℕ) (d n : ℕ) where
 
   pub directory_walked : length t ≡ 8192 → is_walked t n ≡ is_directory r
   unfolding is_walked
-  directory_walked l = rw (eq_eqb (length t) 8192 l) refl
+  directory_walked l = rw (eq-eqb (length t) 8192 l) refl
 
   pub opaque_ends : ends_scan t n ≡ is_opaque r
   unfolding ends_scan
@@ -143,4 +143,4 @@ module _ (t : List ℕ) (d n : ℕ) where
     where
       go : (b : Bool) → eqb (length t) 8192 ≡ b → class_at t d n ≡ cond (ends_scan t n) Opaque Plain
       go true e = rw opaque_ends (directory_class (sym (directory_walked (eqb-true (length t) 8192 e)) ∙ h))
-      go false e = absurd (let w : false ≡ true = not_walked t n (λ q. let k : true ≡ false = sym (eq_eqb (length t) 8192 q) ∙ e in let z : ◌≡◌ {A = ℕ} 0 1 = cc in omega arith) ∙ h in let z : ◌≡◌ {A = ℕ} 0 1 = cc in omega arith)
+      go false e = absurd (let w : false ≡ true = not_walked t n (λ q. let k : true ≡ false = sym (eq-eqb (length t) 8192 q) ∙ e in let z : ◌≡◌ {A = ℕ} 0 1 = cc in omega arith) ∙ h in let z : ◌≡◌ {A = ℕ} 0 1 = cc in omega arith)

@@ -5,7 +5,7 @@ use native.Mathlib.Omega.{arith}
 use mathlib.Core.Bool.{Bool, true, false, cond}
 use mathlib.Core.List.{List}
 use lib.Dec.{eqb, leb}
-use borrow.Author.Tests.{eq_eqb, ne_eqb, le-leb, lt-leb}
+use borrow.Author.Tests.{eq-eqb, ne_eqb, le-leb, lt-leb}
 use lib.ListN.{length, set}
 use Rattle.layers.specs.Bytes.{AllBytes}
 use Rattle.layers.specs.declared.search.Found.{Found}
@@ -66,11 +66,11 @@ module _ (s : List ℕ) (x m : ℕ) (l : 1 < x) (f : Found) (q : f ≡ find_numb
     module _ (z : n.count ≡ 0) (b : Bool) (c : b ≡ has_children (nodes_of s) x) (u : List ℕ) where
       pub forget_stays : b ≡ true → u ≡ put_bytes s k n → u ≡ forget_spec s x m
       unfolding forgotten_at
-      forget_stays t w = w ∙ rw (forget_is, h, eq_eqb (fallen (node_at (nodes_of s) k).count m) 0 (sym count_is ∙ z), ← c, t, g, e) refl
+      forget_stays t w = w ∙ rw (forget_is, h, eq-eqb (fallen (node_at (nodes_of s) k).count m) 0 (sym count_is ∙ z), ← c, t, g, e) refl
 
       pub forget_goes : b ≡ false → (p : ℕ) → p ≡ n.parent → u ≡ unloaded (taken_bytes s k) p → u ≡ forget_spec s x m
       unfolding forgotten_at
-      forget_goes t p o w = w ∙ rw (forget_is, h, eq_eqb (fallen (node_at (nodes_of s) k).count m) 0 (sym count_is ∙ z), ← c, t, o, parent_is) refl
+      forget_goes t p o w = w ∙ rw (forget_is, h, eq-eqb (fallen (node_at (nodes_of s) k).count m) 0 (sym count_is ∙ z), ← c, t, o, parent_is) refl
 
 pub ruleset forgets = (forget_root, forget_unknown, forget_falls, forget_stays, forget_goes)
 

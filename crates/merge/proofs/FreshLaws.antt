@@ -7,7 +7,7 @@ use mathlib.Core.Bool.{Bool, true, false, cond}
 use mathlib.Core.List.{List, [], ◌∷◌, ◌++◌}
 use lib.Dec.{eqb}
 use lib.ListN.{length}
-use borrow.Author.Tests.{eq_eqb, ne_eqb}
+use borrow.Author.Tests.{eq-eqb, ne_eqb}
 use Rattle.layers.specs.Names.{Name}
 use Rattle.merge.specs.Tables.{table_of}
 use Rattle.merge.specs.Stacks.{pair, stack_of, stack_from}
@@ -51,7 +51,7 @@ module _ (u l : List ℕ) (o : Stack) (k : ℕ) (q : RootsLeft u l o k) where
 
     pub roots_there : length t ≡ 8192 → (o' : Stack) → o' ≡ push o (pair k 1) → RootsLeft u l o' (k + 1)
     unfolding push_all
-    roots_there e o' p = rw (p, add-one k) (sym (rw (eq_eqb (length t) 8192 e) refl) ∙ step)
+    roots_there e o' p = rw (p, add-one k) (sym (rw (eq-eqb (length t) 8192 e) refl) ∙ step)
 
     pub roots_skip : (length t ≡ 8192 → ⊥) → RootsLeft u l o (k + 1)
     roots_skip e = rw (add-one k) (sym (rw (ne_eqb (length t) 8192 e) refl) ∙ step)

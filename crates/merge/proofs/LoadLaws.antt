@@ -8,7 +8,7 @@ use mathlib.Core.List.{List, [], ◌∷◌, ◌++◌, map, append-nil}
 use lib.Dec.{eqb, ltb, leb}
 use lib.ListN.{length, take, drop, get_or, set, length-take, length-set, length-map, drop_of_length-le}
 use lib.Seq.{drop-cons, get_or-take, get_or-drop, take-suc-set, drop-set-lt, append_snoc, drop-drop, length-take-le}
-use borrow.Author.Tests.{eq_eqb, ne_eqb, le-leb, lt-leb}
+use borrow.Author.Tests.{eq-eqb, ne_eqb, le-leb, lt-leb}
 use Rattle.layers.specs.Names.{Name, same_name}
 use Rattle.layers.specs.Search.{one, first_from}
 use Rattle.layers.specs.declared.search.Found.{Found}

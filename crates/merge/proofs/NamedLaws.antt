@@ -9,7 +9,7 @@ use mathlib.Core.List.{List, [], ◌∷◌, map}
 use lib.Dec.{eqb}
 use lib.ListN.{length, get_or}
 use native.Mathlib.Decide.{ℕ_discrete}
-use borrow.Author.Tests.{eq_eqb, ne_eqb}
+use borrow.Author.Tests.{eq-eqb, ne_eqb}
 use Rattle.layers.specs.Names.{Name, same_name, order_of}
 use Rattle.layers.specs.Items.{entries_of, entry_at, free_entry}
 use Rattle.layers.specs.Search.{name_of, names, first_from, search_of}
@@ -157,7 +157,7 @@ children_exist u l h k = go (ℕ_discrete (length (table_of u l k)) 8192)
 
 pub names_used : (d : ℕ) (x : Name) (e : Entry) → names d x e ≡ true → e.parent ≢ 0
 unfolding names
-names_used d x e h z = absurd (let w : false ≡ true = sym (rw (eq_eqb e.parent 0 z) refl) ∙ h in let o : ◌≡◌ {A = ℕ} 0 1 = cc in omega arith)
+names_used d x e h z = absurd (let w : false ≡ true = sym (rw (eq-eqb e.parent 0 z) refl) ∙ h in let o : ◌≡◌ {A = ℕ} 0 1 = cc in omega arith)
 
 seen_named : (t : List ℕ) (d : ℕ) (x : Name) → ChildrenExist (entries_of t) → is_seen (seen_of t d x) ≡ any (names d x) (entries_of t)
 unfolding seen_of child_at

@@ -8,7 +8,7 @@ use mathlib.Core.Bool.{Bool, true, false, cond}
 use mathlib.Core.List.{List, [], ◌∷◌, ◌++◌}
 use lib.Dec.{eqb}
 use lib.ListN.{length, take, drop, set}
-use borrow.Author.Tests.{eq_eqb, ne_eqb, eqb-true}
+use borrow.Author.Tests.{eq-eqb, ne_eqb, eqb-true}
 use Rattle.layers.specs.Names.{Name, same_name, order_of}
 use Rattle.layers.specs.Search.{first_from}
 use Rattle.layers.specs.Order.{insert_by, spot_from, spot_step}
@@ -31,7 +31,7 @@ use Rattle.merge.proofs.ListChanges.{shifted, at_inserted, at_shifted, found_shi
 
 pub is_number_lem : (x : ℕ) (n : Node) → n.number ≡ x → is_number x n ≡ true
 unfolding is_number
-is_number_lem x n e = eq_eqb n.number x e
+is_number_lem x n e = eq-eqb n.number x e
 
 pub other_number : (x : ℕ) (n : Node) → n.number ≢ x → is_number x n ≡ false
 unfolding is_number
@@ -43,7 +43,7 @@ number_of x n e = eqb-true n.number x e
 
 pub is_parent : (p : ℕ) (n : Node) → n.parent ≡ p → has_parent p n ≡ true
 unfolding has_parent
-is_parent p n e = eq_eqb n.parent p e
+is_parent p n e = eq-eqb n.parent p e
 
 pub other_parent : (p : ℕ) (n : Node) → n.parent ≢ p → has_parent p n ≡ false
 unfolding has_parent
@@ -55,7 +55,7 @@ unfolding is_child
 is_child_lem p x n e =
     let a : n.parent ≡ p = cc in
     let b : node_name n ≡ x = cc in
-    rw (eq_eqb n.parent p a) (ap (λ (y : Name). same_name y x) b ∙ same_refl x)
+    rw (eq-eqb n.parent p a) (ap (λ (y : Name). same_name y x) b ∙ same_refl x)
 
 pub child_key : (p : ℕ) (x : Name) (n : Node) → is_child p x n ≡ true → key_of n ≡ p ∷ x
 unfolding is_child

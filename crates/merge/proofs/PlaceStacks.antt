@@ -9,7 +9,7 @@ use mathlib.Core.List.{List, [], ◌∷◌}
 use lib.Dec.{eqb}
 use lib.ListN.{length, take, drop, get_or, length-take}
 use lib.Seq.{drop-cons, get_or-take}
-use borrow.Author.Tests.{eq_eqb, ne_eqb, eqb-true}
+use borrow.Author.Tests.{eq-eqb, ne_eqb, eqb-true}
 use Rattle.layers.specs.Names.{Name, same_name}
 use Rattle.layers.specs.Items.{entries_of, entry_at, free_entry}
 use Rattle.layers.specs.Search.{name_of, names, first_from, search_of}
@@ -104,7 +104,7 @@ module _ (u l : List ℕ) (x : Name) (q : ℕ) (a : Pair) (r : List Pair) where
       let i : a.layer ≡ q / 128 = omega arith in
       let j : q % 128 ≡ k = omega arith in
       let n : names a.number x (entry_at es k) ≡ true = first_passes (names a.number x) free_entry 0 es k (e ∙ ap At (sym (zero-add k))) in
-      rw (eq_eqb a.layer (q / 128) i, walked_long t a.number (is_walked t a.number) refl w, j) (stands (in_directory a.number (entry_at es k)) refl n)
+      rw (eq-eqb a.layer (q / 128) i, walked_long t a.number (is_walked t a.number) refl w, j) (stands (in_directory a.number (entry_at es k)) refl n)
     where
       stands : (b : Bool) → in_directory a.number (entry_at es k) ≡ b → names a.number x (entry_at es k) ≡ true → b ≡ true
       stands true z n = refl
@@ -192,11 +192,11 @@ module _ (u l : List ℕ) (k d q : ℕ) where
   module _ (e : k ≡ q / 128) (t : List ℕ) (w : ℕ) (t-is : t ≡ table_of u l w) (w-is : w ≡ k) where
     pub no_layer_lem : (length t ≡ 8192 → ⊥) → false ≡ holds_place u l k d q
     unfolding holds_place
-    no_layer_lem h = rw (eq_eqb k (q / 128) e, ← w-is, ← t-is, ne_eqb (length t) 8192 h) refl
+    no_layer_lem h = rw (eq-eqb k (q / 128) e, ← w-is, ← t-is, ne_eqb (length t) 8192 h) refl
 
     pub holds_is : (r : Bool) → length t ≡ 8192 → r ≡ in_directory d (entry_at (entries_of t) (q % 128)) → r ≡ holds_place u l k d q
     unfolding holds_place
-    holds_is r h g = rw (eq_eqb k (q / 128) e, ← w-is, ← t-is, h) g
+    holds_is r h g = rw (eq-eqb k (q / 128) e, ← w-is, ← t-is, h) g
 
 pub ruleset holds-place = (other_layer, no_layer_lem, holds_is)
 

@@ -8,7 +8,7 @@ use mathlib.Core.List.{List, [], ◌∷◌, ◌++◌, append_assoc}
 use lib.Dec.{eqb}
 use lib.ListN.{length, take, drop, get_or, length-append, length-take, length-drop, drop_of_length-le}
 use lib.Seq.{drop-cons, get_or-take, drop-drop, drop_at}
-use borrow.Author.Tests.{eq_eqb, ne_eqb, lt-leb, le-ltb}
+use borrow.Author.Tests.{eq-eqb, ne_eqb, lt-leb, le-ltb}
 use Rattle.layers.specs.Bytes.{part}
 use Rattle.layers.specs.Names.{Name}
 use Rattle.layers.specs.Items.{entries_of, entry_at, free_entry}
@@ -38,7 +38,7 @@ in_none p d e h n = rw (← h, n) refl
 rest_put_in : (p : List ℕ) (n i q : ℕ) → length p ≡ 512 → n < 512 → i ≤ n → drop (n + 1) (put_in p n i q) ≡ drop (n + 1) p
 unfolding put_in
 rest_put_in p n i q l h m =
-    rw (eq_eqb (length p) 512 l, lt-leb 512 n h, le-ltb n i m, add-one n, ← append_assoc (take i p) (q ∷ part p i (n - i)) (drop (suc n) p))
+    rw (eq-eqb (length p) 512 l, lt-leb 512 n h, le-ltb n i m, add-one n, ← append_assoc (take i p) (q ∷ part p i (n - i)) (drop (suc n) p))
     (drop_at (take i p ++ q ∷ part p i (n - i)) (drop (suc n) p) (suc n) (simp (length-append, length-take, length-drop) (omega arith)))
 
 module _ (f : ℕ → Name) (p : List ℕ) (n q : ℕ) (x : Name) (x-is : x ≡ f q) (s : Spot) (s-is : s ≡ spot_from f 0 x (take n p)) (l : length p ≡ 512) (b : n < 512) where

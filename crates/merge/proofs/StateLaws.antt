@@ -9,7 +9,7 @@ use mathlib.Core.List.{List, [], ◌∷◌}
 use lib.Dec.{eqb}
 use lib.ListN.{length, take, drop, get_or, length-take, length-drop, length-map, drop_of_length-le, get_or-eq_default}
 use lib.Seq.{take_all, take-take, drop-drop, drop-cons, get_or-take, get_or-drop}
-use borrow.Author.Tests.{eq_eqb, ne_eqb, lt-ltb, le-ltb}
+use borrow.Author.Tests.{eq-eqb, ne_eqb, lt-ltb, le-ltb}
 use Rattle.layers.specs.Bytes.{part, le_of, number_at}
 use Rattle.layers.specs.Items.{pieces}
 use Rattle.layers.specs.Names.{Name, same_name, order_of}
@@ -140,7 +140,7 @@ module _ (p : ℕ) (x : Name) (m : Node) (d w : ℕ) (q : d ≡ m.parent) (e : w
 
   pub child_named_lem : w ≡ p → (y : Name) (r : Bool) → y ≡ node_name m → r ≡ same_name y x → r ≡ is_child p x m
   unfolding is_child
-  child_named_lem h y r f g = rw (eq_eqb m.parent p (sym q ∙ (sym e ∙ h))) (g ∙ ap (λ (l : Name). same_name l x) f)
+  child_named_lem h y r f g = rw (eq-eqb m.parent p (sym q ∙ (sym e ∙ h))) (g ∙ ap (λ (l : Name). same_name l x) f)
 
 module _ (ns : List Node) (p : ℕ) (f : Found) (e : f ≡ child_from ns p 0) where
   pub children_some : (k : ℕ) → f ≡ At k → true ≡ has_children ns p

@@ -6,7 +6,7 @@ use mathlib.Core.Bool.{Bool, true, false, cond}
 use mathlib.Core.List.{List, [], map}
 use lib.Dec.{eqb, ltb}
 use lib.ListN.{length, take, drop, length-take, length-drop, get_or}
-use borrow.Author.Tests.{eqb-true, ltb-false, eq_eqb, ne_eqb, lt-ltb, le-ltb}
+use borrow.Author.Tests.{eqb-true, ltb-false, eq-eqb, ne_eqb, lt-ltb, le-ltb}
 use Rattle.layers.specs.Bytes.{part}
 use Rattle.merge.specs.Tables.{table_of, place_name}
 use Rattle.layers.specs.Items.{pieces, entry_of, entries_of, entry_at, free_entry}
@@ -15,11 +15,11 @@ use Rattle.layers.specs.Search.{name_of}
 module _ (u l : List ℕ) (k : ℕ) where
   pub table_upper : k ≡ 0 → length u ≡ 8192 → u ≡ table_of u l k
   unfolding table_of
-  table_upper h g = rw (eq_eqb k 0 h, eq_eqb (length u) 8192 g) refl
+  table_upper h g = rw (eq-eqb k 0 h, eq-eqb (length u) 8192 g) refl
 
   pub table_no_upper : k ≡ 0 → (length u ≡ 8192 → ⊥) → [] ≡ table_of u l k
   unfolding table_of
-  table_no_upper h g = rw (eq_eqb k 0 h, ne_eqb (length u) 8192 g) refl
+  table_no_upper h g = rw (eq-eqb k 0 h, ne_eqb (length u) 8192 g) refl
 
   -- a layer that has no 8192 bytes has none
   pub table_none : (length (table_of u l k) ≡ 8192 → ⊥) → table_of u l k ≡ []
