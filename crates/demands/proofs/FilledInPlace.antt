@@ -340,8 +340,8 @@ module _ (t l s : List ℕ) (v : Valid t) (g : Good t l s) (k : ℕ) (bk : k < c
     in_upper_lem : table_of t l 0 ≡ t
     in_upper_lem = sym (table_upper t l 0 refl v.size)
 
-    top_walked : is_walked (table_of t l 0) d ≡ true
-    top_walked = ap (λ (y : List ℕ). is_walked y d) in_upper_lem ∙ walked
+    top_walked_lem : is_walked (table_of t l 0) d ≡ true
+    top_walked_lem = ap (λ (y : List ℕ). is_walked y d) in_upper_lem ∙ walked
 
     -- ---- the name's upper entry, where its node's top record is upper
 
@@ -409,7 +409,7 @@ module _ (t l s : List ℕ) (v : Valid t) (g : Good t l s) (k : ℕ) (bk : k < c
       marked =
           let a : (f n.number).white ≡ one (whiteout_of t l (stack_list (f (f n.number).parent)) (node_name (f n.number))) = g.nodes.coherent.white_is n.number (node_there, other) in
           let b : whiteout_of t l (stack_list (f (f n.number).parent)) (node_name (f n.number)) ≡ is_mark (class_at t d old) =
-          ap₂ (λ (i : ℕ) (y : Name). whiteout_of t l (stack_list (f i)) y) parent_is name_is ∙ (ap (λ (ps : List Pair). whiteout_of t l ps x) above_stack.1 ∙ whiteout_top t l (pair 0 d) above_stack.0 top_walked x (class_at t d old) old top_seen) in
+          ap₂ (λ (i : ℕ) (y : Name). whiteout_of t l (stack_list (f i)) y) parent_is name_is ∙ (ap (λ (ps : List Pair). whiteout_of t l ps x) above_stack.1 ∙ whiteout_top t l (pair 0 d) above_stack.0 top_walked_lem x (class_at t d old) old top_seen) in
           one_some (is_mark (class_at t d old)) (λ z. eqb-false n.white 0 (not-true (eqb n.white 0) white) (sym (ap (λ (m : Node). m.white) by_place) ∙ (a ∙ (ap one b ∙ z))))
 
       no_directory : (record_at (records_of t) old).kind ≢ 4
@@ -420,7 +420,7 @@ module _ (t l s : List ℕ) (v : Valid t) (g : Good t l s) (k : ℕ) (bk : k < c
       node_stack =
           g.nodes.coherent.stack_is n.number (node_there, other)
           ∙ (ap₂ (λ (i : ℕ) (y : Name). stack_of t l (stack_list (f i)) y) parent_is name_is
-          ∙ (ap (λ (ps : List Pair). stack_of t l ps x) above_stack.1 ∙ stack_alone t l (pair 0 d) above_stack.0 top_walked x (class_at t d old) old top_seen (mark_ends (class_at t d old) marked)))
+          ∙ (ap (λ (ps : List Pair). stack_of t l ps x) above_stack.1 ∙ stack_alone t l (pair 0 d) above_stack.0 top_walked_lem x (class_at t d old) old top_seen (mark_ends (class_at t d old) marked)))
 
       -- and nothing lies below it
       node_top : top_walked t l (stack_list (f n.number)) ≡ false

@@ -117,17 +117,17 @@ module _ (t : List ℕ) (v : Valid t) (d : ℕ) (walked : is_walked t d ≡ true
       in_link : table_of link l 0 ≡ link
       in_link = sym (table_upper link l 0 refl link_valid.size)
 
-      top_walked : is_walked (table_of link l 0) d ≡ true
-      top_walked = ap (λ (w : List ℕ). is_walked w d) in_link ∙ link_walked
+      top_walked_lem : is_walked (table_of link l 0) d ≡ true
+      top_walked_lem = ap (λ (w : List ℕ). is_walked w d) in_link ∙ link_walked
 
       top_seen : seen_of (table_of link l 0) d x ≡ There Other c
       top_seen = ap (λ (w : List ℕ). seen_of w d x) in_link ∙ link_seen
 
       pub link_stack : stack_of link l (pair 0 d ∷ ps) x ≡ pair 0 c ∷ []
-      link_stack = stack_alone link l (pair 0 d) ps top_walked x Other c top_seen refl
+      link_stack = stack_alone link l (pair 0 d) ps top_walked_lem x Other c top_seen refl
 
       pub link_mark : whiteout_of link l (pair 0 d ∷ ps) x ≡ false
-      link_mark = whiteout_top link l (pair 0 d) ps top_walked x Other c top_seen
+      link_mark = whiteout_top link l (pair 0 d) ps top_walked_lem x Other c top_seen
 
 -- ---- the source: a node that stands on an upper record, and is no directory and not marked white
 

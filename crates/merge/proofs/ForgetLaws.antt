@@ -90,10 +90,10 @@ forgotten_nodes ns x m (At k) =
 unfoldable pub forget_nodes : List Node → ℕ → ℕ → List Node
 forget_nodes ns x m = cond (leb x 1) ns (forgotten_nodes ns x m (find_number ns x))
 
-unloaded_nodes : (s : List ℕ) (f : Found) → AllBytes s → nodes_of (unloaded_at s f) ≡ unloaded_nodes (nodes_of s) f
+unloaded_nodes_lem : (s : List ℕ) (f : Found) → AllBytes s → nodes_of (unloaded_at s f) ≡ unloaded_nodes (nodes_of s) f
 unfolding unloaded_at unloaded_nodes
-unloaded_nodes s (At k) h = nodes_put s k (with_loaded (node_at (nodes_of s) k) 0) (whole_loaded (node_at (nodes_of s) k) (node_whole s h k) 0 (omega arith)).fits
-unloaded_nodes s Missing h = refl
+unloaded_nodes_lem s (At k) h = nodes_put s k (with_loaded (node_at (nodes_of s) k) 0) (whole_loaded (node_at (nodes_of s) k) (node_whole s h k) 0 (omega arith)).fits
+unloaded_nodes_lem s Missing h = refl
 
 pub nodes_forgotten : (s : List ℕ) (x m : ℕ) → AllBytes s → nodes_of (forget_spec s x m) ≡ forget_nodes (nodes_of s) x m
 unfolding forget_spec forget_nodes
@@ -103,7 +103,7 @@ nodes_forgotten s x m h = first (leb x 1)
     put k = nodes_put s k (forgotten (node_at (nodes_of s) k) m) (whole_forgotten (node_at (nodes_of s) k) (node_whole s h k) m).fits
 
     gone : (k p : ℕ) → nodes_of (unloaded (taken_bytes s k) p) ≡ unloaded_nodes (remove_at k (nodes_of s)) (find_number (remove_at k (nodes_of s)) p)
-    gone k p = unloaded_nodes (taken_bytes s k) (find_number (nodes_of (taken_bytes s k)) p) (bytes_taken s h k) ∙ ap (λ (ns : List Node). unloaded_nodes ns (find_number ns p)) (nodes_taken s k)
+    gone k p = unloaded_nodes_lem (taken_bytes s k) (find_number (nodes_of (taken_bytes s k)) p) (bytes_taken s h k) ∙ ap (λ (ns : List Node). unloaded_nodes ns (find_number ns p)) (nodes_taken s k)
 
     third : (k : ℕ) (c b : Bool)
         → nodes_of (cond c (cond b (put_bytes s k (forgotten (node_at (nodes_of s) k) m)) (unloaded (taken_bytes s k) (node_at (nodes_of s) k).parent)) (put_bytes s k (forgotten (node_at (nodes_of s) k) m)))

@@ -15,7 +15,7 @@ use Rattle.merge.specs.Pushes.{no_stack, push}
 use Rattle.merge.specs.Fresh.{roots_from, root_stack, fresh_from, fresh}
 use Rattle.merge.specs.declared.stacks.Pair.{Pair}
 use Rattle.merge.specs.declared.stacks.Stack.{Stack}
-use Rattle.merge.proofs.PushLaws.{push_all, push_all}
+use Rattle.merge.proofs.PushLaws.{push_all, push_all_lem}
 use Rattle.merge.proofs.StackLaws.{length_stack}
 
 length_roots : (u l : List ℕ) (k n : ℕ) → length (roots_from u l k n) ≤ n
@@ -37,7 +37,7 @@ RootsLeft u l o k = push_all o (roots_from u l k (4 - k)) ≡ stack_from (root_s
 
 pub roots_start : (u l : List ℕ) (o : Stack) → o ≡ no_stack → RootsLeft u l o 0
 unfolding root_stack
-roots_start u l o h = rw h (push_all (roots_from u l 0 4) (length_roots u l 0 4))
+roots_start u l o h = rw h (push_all_lem (roots_from u l 0 4) (length_roots u l 0 4))
 
 module _ (u l : List ℕ) (o : Stack) (k : ℕ) (q : RootsLeft u l o k) where
   pub roots_end : 4 ≤ k → o ≡ stack_from (root_stack u l) false

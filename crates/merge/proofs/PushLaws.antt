@@ -105,10 +105,10 @@ walk_merge (r ∷ rs) h = go r.class
     go Plain = walk_later (push no_stack r.place) rs (λ e. omega arith) ∙ push_list r.place (places (later classes rs)) short
     go Opaque = refl
 
-pub push_all : (ps : List Pair) → length ps ≤ 4 → push_all no_stack ps ≡ stack_from ps false
+pub push_all_lem : (ps : List Pair) → length ps ≤ 4 → push_all no_stack ps ≡ stack_from ps false
 unfolding push_all stack_from
-push_all [] h = refl
-push_all (p ∷ ps) h = push_list p ps (omega arith)
+push_all_lem [] h = refl
+push_all_lem (p ∷ ps) h = push_list p ps (omega arith)
 
 -- ---- a stack of 4 places with a length holds its list
 
