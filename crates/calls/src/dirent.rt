@@ -4,7 +4,7 @@ ghost use Rattle.layers.specs.Bytes.{least, over, le_bytes};
 ghost use Rattle.calls.specs.Dirents.{dirent, padding, dirent_bytes, put_answer, put_dirent};
 
 // What became of an entry: where the next one goes, or that it did not fit.
-#[derive(Drop)]
+#[derive(Clone, Copy)]
 pub enum Put {
     Next(usize),
     Full,

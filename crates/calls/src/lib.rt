@@ -1,4 +1,5 @@
 // The calls, each one total function of the lent memory, and the exported C functions.
+#![tactic(auto)]
 pub mod copy_up;
 pub mod count;
 pub mod creation;

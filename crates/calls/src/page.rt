@@ -13,7 +13,7 @@ use merge::stacks::Pair;
 use merge::{node, state, tables};
 
 // How many bytes were written, and whether entries remain.
-#[derive(Drop)]
+#[derive(Clone, Copy)]
 pub struct Page {
     pub bytes: usize,
     pub remains: bool,

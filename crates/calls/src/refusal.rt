@@ -2,7 +2,7 @@
 ghost use Rattle.std.specs.Prelude.{◌≡◌, ◌≤◌};
 ghost use Rattle.calls.specs.Refusal.{refusal_number, errno_of, packed};
 
-#[derive(Drop)]
+#[derive(Clone, Copy)]
 pub enum Refusal {
     Eperm,
     Enoent,
@@ -16,7 +16,7 @@ pub enum Refusal {
 }
 
 // A number (a node's, a place, a count; 0 where the call answers none), or why the call is refused.
-#[derive(Drop)]
+#[derive(Clone, Copy)]
 pub enum Answer {
     Fine(usize),
     Refused(Refusal),

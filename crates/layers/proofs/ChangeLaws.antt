@@ -3,16 +3,16 @@ use mathlib.Core.Path.{◌≡◌, refl, sym, ap, ap₂, ◌∙◌}
 use mathlib.Core.Logic.{◌≢◌}
 use Prim.Native.Nat.{ℕ, zero, suc, ◌+◌, ◌≤◌, ◌<◌}
 use native.Mathlib.Omega.{arith}
-use native.Mathlib.Nat.{add-zero, add-suc, suc-add, zero-add, add_assoc, add_comm}
-use mathlib.Core.Bool.{Bool, true, false, not, cond}
+use native.Mathlib.Nat.{add-zero, add-suc, suc-add, zero-add}
+use mathlib.Core.Bool.{Bool, true, false, cond}
 use mathlib.Core.List.{List, [], ◌∷◌}
 use lib.Dec.{eqb}
-use lib.ListN.{length, get_or, set, get_or-eq_default}
+use lib.ListN.{length, get_or, set}
 use lib.Seq.{get_or-set_same, get_or-set_other}
 use borrow.Author.Tests.{eq-eqb, ne_eqb, eqb-true, eqb-false}
 use Rattle.layers.specs.Items.{records_of, entries_of, record_at, entry_at, free_record, free_entry, with_record, with_entry, record_put, entry_put, PutRecord, PutEntry}
 use Rattle.layers.specs.Names.{Name}
-use Rattle.layers.specs.Search.{first_from, one, count_if, names, search_of, is_free, no_record, names_record, naming, free_entry_place, free_record_place}
+use Rattle.layers.specs.Search.{first_from, one, count_if, names, search_of, is_free, no_record, naming, free_entry_place, free_record_place}
 use Rattle.layers.specs.Change.{entry_placed, entry_added, entry_put_at, AddEntry, numbered, record_placed, record_added, record_put_at, AddRecord, records_left, record_left, FreedRecord, entries_left, dropped_entry, DropEntry}
 use Rattle.layers.specs.declared.items.Record.{Record}
 use Rattle.layers.specs.declared.items.Entry.{Entry}

@@ -5,7 +5,7 @@ use native.Mathlib.Omega.{arith}
 use mathlib.Core.Bool.{Bool, true, false}
 use mathlib.Core.List.{List, ◌∷◌}
 use lib.Dec.{ltb}
-use lib.ListN.{length, take, drop, get_or, replicate, length-take, length-drop}
+use lib.ListN.{length, take, drop, replicate, length-take, length-drop}
 use lib.Seq.{drop-drop, get_or-drop, take-take, take_all}
 use borrow.Author.Tests.{ltb-true, ltb-false}
 use Rattle.layers.specs.Bytes.{part, le_of}

@@ -1,19 +1,19 @@
 -- Items read from a table's bytes and written there; the lists of items give the bytes back. Assumes nothing.
-use mathlib.Core.Path.{◌≡◌, refl, sym, ap, ap₂, ◌∙◌}
-use Prim.Native.Nat.{ℕ, zero, suc, ◌+◌, ◌*◌, ◌-◌, ◌^◌, ◌≤◌, ◌<◌}
+use mathlib.Core.Path.{◌≡◌, refl, sym, ap, ◌∙◌}
+use Prim.Native.Nat.{ℕ, zero, suc, ◌+◌, ◌*◌, ◌-◌, ◌≤◌, ◌<◌}
 use native.Mathlib.Omega.{arith}
 use native.Mathlib.Nat.{add_assoc}
 use lib.Seq.{drop-drop, take_all, set_out}
 use borrow.Author.Tests.{eq-eqb, ne_eqb, lt-ltb, le-ltb}
 use mathlib.Core.List.{List, [], ◌∷◌, ◌++◌, map}
-use lib.ListN.{length, take, drop, get_or, set, replicate, length-append, length-take, length-drop, length-map, get_or-eq_default}
-use Rattle.layers.specs.Bytes.{part, over, le_of, le_bytes, number_at, laid, AllBytes}
-use Rattle.layers.specs.Items.{pieces, head_bytes, tail_bytes, record_bytes, entry_bytes, record_of, entry_of, records_of, entries_of, record_at, entry_at, free_record, free_entry, with_record, with_entry, record_put, entry_put, PutRecord, PutEntry, FitsHead, FitsTail}
+use lib.ListN.{length, take, drop, get_or, replicate, length-append, length-take, length-drop, length-map, get_or-eq_default}
+use Rattle.layers.specs.Bytes.{part, over, le_of, le_bytes, number_at, laid}
+use Rattle.layers.specs.Items.{pieces, head_bytes, tail_bytes, record_bytes, entry_bytes, record_of, entry_of, records_of, entries_of, record_at, entry_at, free_record, free_entry, with_record, record_put, entry_put, PutRecord, PutEntry, FitsHead, FitsTail}
 use Rattle.layers.specs.declared.items.Record.{Record}
 use Rattle.layers.specs.declared.items.Entry.{Entry}
-use Rattle.layers.proofs.Numbers.{le_read, le_write, length_le, number_in, laid_in}
+use Rattle.layers.proofs.Numbers.{le_read, length_le, number_in, laid_in}
 use Rattle.layers.proofs.Runs.{over_next, drop_over, drop_over_after, length_over, over_all}
-use Rattle.layers.proofs.Pieces.{pieces_set, pieces_past, piece_at, length_pieces, map_set, le_row}
+use Rattle.layers.proofs.Pieces.{pieces_set, pieces_past, piece_at, length_pieces, map_set}
 
 pub get_d_map : {A B : Type 0} (f : A → B) (l : List A) (i : ℕ) (d : B) (e : A) → i < length l → get_or (map f l) i d ≡ f (get_or l i e)
 get_d_map f [] i d e h = absurd (omega arith)

@@ -1,16 +1,15 @@
 -- Names compared byte by byte, and what the comparisons say. Assumes nothing.
 use mathlib.Core.Path.{◌≡◌, refl, sym, ap, ap₂, ◌∙◌}
-use Prim.Native.Nat.{ℕ, zero, suc, ◌+◌, ◌≤◌, ◌<◌}
+use Prim.Native.Nat.{ℕ, suc, ◌+◌, ◌≤◌, ◌<◌}
 use native.Mathlib.Omega.{arith}
 use native.Mathlib.Numerals.{add-one}
 use mathlib.Core.Bool.{Bool, true, false, cond}
-use mathlib.Core.List.{List, [], ◌∷◌}
+use mathlib.Core.List.{[], ◌∷◌}
 use lib.ListN.{length, drop, get_or, drop_of_length-le}
 use lib.Seq.{drop-cons}
 use lib.Dec.{eqb, ltb}
 use borrow.Author.Tests.{eq-eqb, ne_eqb, eqb-true, lt-ltb, le-ltb}
-use Rattle.layers.specs.Names.{Name, same_name, holds, malformed_name, order_of}
-use Rattle.layers.specs.declared.names.Order.{Order}
+use Rattle.layers.specs.Names.{Name, same_name, holds, order_of}
 use Rattle.layers.specs.declared.names.Order.TheVariants.{Before, Same, After}
 
 pub same_true : (a b : Name) → same_name a b ≡ true → a ≡ b

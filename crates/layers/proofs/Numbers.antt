@@ -2,12 +2,11 @@
 use mathlib.Core.Path.{◌≡◌, refl, sym, ap, ap₂, ◌∙◌}
 use Prim.Native.Nat.{ℕ, zero, suc, ◌+◌, ◌*◌, ◌/◌, ◌%◌, ◌^◌, ◌-◌, ◌≤◌, ◌<◌}
 use native.Mathlib.Omega.{arith}
-use native.Mathlib.Nat.{pow-suc, pow-succ', mul_assoc, mul_comm, mod-mod, mod-lt, mul-add-mod_self_right, mul-add-div_right, div-eq_of_lt, one-le-pow, div-lt_iff_lt-mul, mod-add-div, zero-add, suc-add, div-one, div-div-eq-div-mul, add-mul-mod_self_left, add-mul-div_left, mod-eq_of_lt}
+use native.Mathlib.Nat.{pow-suc, pow-succ', mul_assoc, mod-mod, mod-lt, mul-add-mod_self_right, mul-add-div_right, div-eq_of_lt, one-le-pow, div-lt_iff_lt-mul, mod-add-div, zero-add, suc-add, div-one, div-div-eq-div-mul, add-mul-mod_self_left, add-mul-div_left, mod-eq_of_lt}
 use mathlib.Core.List.{List, [], ◌∷◌, ◌++◌}
-use lib.ListN.{length, take, drop, get_or, length-drop}
-use lib.Seq.{take-add, take-take, drop-drop, drop-cons, length-take-le}
-use native.Mathlib.Numerals.{add-one}
-use Rattle.layers.proofs.Runs.{over_next, length_over}
+use lib.ListN.{length, take, drop, get_or}
+use lib.Seq.{take-add, take-take, drop-drop, length-take-le}
+use Rattle.layers.proofs.Runs.{length_over}
 use lib.Arith.{mod-mul}
 use Rattle.layers.specs.Bytes.{part, over, le_of, le_bytes, number_at, laid, AllBytes}
 use borrow.Author.Tests.{le-leb, lt-leb, leb-true}

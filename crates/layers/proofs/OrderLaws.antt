@@ -1,14 +1,13 @@
 -- The order of names is one: of two names one comes first, and what comes before the earlier comes before the later. Assumes nothing.
-use mathlib.Core.Path.{◌≡◌, refl, sym, ap, ap₂, ◌∙◌}
+use mathlib.Core.Path.{◌≡◌, refl, sym, ap₂, ◌∙◌}
 use mathlib.Core.Logic.{◌⊎◌, inl, inr, ⊎_elim}
-use Prim.Native.Nat.{ℕ, zero, suc, ◌+◌, ◌≤◌, ◌<◌}
+use Prim.Native.Nat.{ℕ, ◌≤◌, ◌<◌}
 use native.Mathlib.Omega.{arith}
-use mathlib.Core.Bool.{Bool, true, false, cond}
-use mathlib.Core.List.{List, [], ◌∷◌}
+use mathlib.Core.Bool.{Bool, true, false}
+use mathlib.Core.List.{[], ◌∷◌}
 use lib.Dec.{ltb}
 use borrow.Author.Tests.{lt-ltb, le-ltb, ltb-true, ltb-false}
 use Rattle.layers.specs.Names.{Name, order_of}
-use Rattle.layers.specs.declared.names.Order.{Order}
 use Rattle.layers.specs.declared.names.Order.TheVariants.{Before, Same, After}
 
 pub before_lt : (x y : ℕ) (xs ys : Name) → x < y → order_of (x ∷ xs) (y ∷ ys) ≡ Before

@@ -3,16 +3,16 @@ use mathlib.Core.Path.{◌≡◌, refl, sym, ap, ap₂, ◌∙◌}
 use Prim.Native.Nat.{ℕ, zero, suc, ◌+◌, ◌*◌, ◌-◌, ◌/◌, ◌%◌, ◌^◌, ◌≤◌, ◌<◌}
 use native.Mathlib.Omega.{arith}
 use native.Mathlib.Nat.{pow-suc, pow-succ', zero-add, suc-add, mul-add, mul_assoc, mul_comm, add_assoc, mul-zero}
-use mathlib.Core.Bool.{Bool, true, false, cond}
+use mathlib.Core.Bool.{cond}
 use mathlib.Core.List.{List, [], ◌∷◌, ◌++◌}
 use lib.Dec.{ltb}
-use lib.ListN.{length, take, drop, get_or, length-append, length-take, length-drop, take-append-drop}
+use lib.ListN.{length, take, drop, length-append, length-take, length-drop, take-append-drop}
 use lib.Seq.{take-add, take-take, drop-drop}
 use borrow.Author.Tests.{lt-ltb, le-ltb}
 use Rattle.layers.specs.Bytes.{part, le_of, be_of, le_bytes, AllBytes}
 use Rattle.layers.specs.Names.{Name, order_of}
 use Rattle.layers.specs.declared.names.Order.{Order}
-use Rattle.layers.specs.declared.names.Order.TheVariants.{Before, Same, After}
+use Rattle.layers.specs.declared.names.Order.TheVariants.{Before, After}
 use Rattle.layers.proofs.Pieces.{le_row}
 use Rattle.layers.proofs.Determined.{again, bytes_drop, bytes_take}
 use Rattle.layers.proofs.OrderLaws.{three, before_lt, order_eq, after_gt}

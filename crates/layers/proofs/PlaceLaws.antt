@@ -1,15 +1,15 @@
 -- A place put in among others. Assumes nothing.
-use mathlib.Core.Path.{◌≡◌, refl, sym, ap, ap₂, ◌∙◌}
-use Prim.Native.Nat.{ℕ, zero, suc, ◌+◌, ◌-◌, ◌≤◌, ◌<◌}
+use mathlib.Core.Path.{◌≡◌, refl, sym, ap, ◌∙◌}
+use Prim.Native.Nat.{ℕ, suc, ◌+◌, ◌-◌, ◌≤◌, ◌<◌}
 use native.Mathlib.Omega.{arith}
 use native.Mathlib.Numerals.{add-one}
-use mathlib.Core.List.{List, [], ◌∷◌, ◌++◌, append_assoc, append-nil}
+use mathlib.Core.List.{List, [], ◌∷◌, ◌++◌, append_assoc}
 use mathlib.Core.Bool.{Bool, true, false, cond}
 use lib.Dec.{leb, ltb}
 use borrow.Author.Tests.{eq-eqb, ne_eqb, le-leb, lt-leb, lt-ltb, le-ltb, leb-false, ltb-false}
-use lib.ListN.{length, take, drop, get_or, set, length-append, length-take, length-drop, take-append-drop, get_or-append, drop_of_length-le}
+use lib.ListN.{length, take, drop, get_or, set, length-append, length-take, length-drop, take-append-drop, get_or-append}
 use Rattle.layers.proofs.Runs.{drop_take}
-use lib.Seq.{take-take, take-suc, drop-cons, append_snoc, set_at, take_at, drop_at, get_or-take, length-take-le}
+use lib.Seq.{take-take, take-suc, drop-cons, append_snoc, set_at, take_at, get_or-take, length-take-le}
 use Rattle.layers.specs.Bytes.{part}
 use Rattle.layers.specs.Order.{inserted, put_in, insert_step, insert_by, spot_step, spot_from}
 use Rattle.layers.specs.Names.{Name, order_of}

@@ -1,5 +1,5 @@
 -- The first place that passes a test, and how many do, walked place by place. Assumes nothing.
-use mathlib.Core.Path.{◌≡◌, refl, sym, ap, ap₂, ◌∙◌}
+use mathlib.Core.Path.{◌≡◌, refl, sym, ap, ◌∙◌}
 use Prim.Native.Nat.{ℕ, zero, suc, ◌+◌, ◌*◌, ◌-◌, ◌≤◌, ◌<◌}
 use native.Mathlib.Omega.{arith}
 use native.Mathlib.Nat.{add_assoc, add-zero, add-suc, suc-add}
@@ -12,14 +12,12 @@ use lib.Dec.{eqb}
 use lib.ListN.{length, take, drop, get_or, drop_of_length-le, length-take, length-drop}
 use lib.Seq.{drop-cons, get_or-take, get_or-drop, take-take, drop-drop, take_all}
 use Rattle.layers.specs.Bytes.{part}
-use Rattle.layers.specs.Items.{pieces, record_of, entry_of, records_of, entries_of, record_at, entry_at, free_record, free_entry}
+use Rattle.layers.specs.Items.{record_of, entry_of, records_of, entries_of, record_at, entry_at, free_record, free_entry}
 use Rattle.layers.specs.Search.{first_from, one, count_if, name_of}
 use Rattle.layers.specs.declared.items.Record.{Record}
 use Rattle.layers.specs.declared.items.Entry.{Entry}
-use Rattle.layers.specs.declared.search.Found.{Found}
 use Rattle.layers.specs.declared.search.Found.TheVariants.{At, Missing}
-use Rattle.layers.proofs.ItemLaws.{get_d_map, entry_is, entry_past, record_is, record_past, length_records}
-use Rattle.layers.proofs.Pieces.{piece_at, length_pieces}
+use Rattle.layers.proofs.ItemLaws.{entry_is, entry_past, record_is, record_past, length_records}
 
 -- `ys` from place `s` on is what is searched, and `xs` from `i` on what is left of it at place `k`
 module _ {A : Type 0} (p : A → Bool) (xs ys : List A) (d : A) (s k i : ℕ) where

@@ -10,7 +10,7 @@ use lib.ListN.{length, get_or-eq_default}
 use borrow.Author.Tests.{ltb-true, ltb-false}
 use Rattle.layers.specs.Items.{records_of, entries_of, record_at, entry_at, free_record, free_entry}
 use Rattle.layers.specs.Search.{name_of, search_of}
-use Rattle.layers.specs.Rules.{Present, Used, NamesAt, NamedOnce, Valid, every, once_test}
+use Rattle.layers.specs.Rules.{Present, Used, NamesAt, NamedOnce, Valid, once_test}
 use Rattle.layers.specs.declared.items.Record.{Record}
 use Rattle.layers.specs.declared.search.Found.TheVariants.{At}
 use Rattle.layers.proofs.ItemLaws.{length_records, length_entries}

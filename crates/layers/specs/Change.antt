@@ -1,5 +1,5 @@
 -- An entry put and taken away, a record put: the only changes of a table. Assumes nothing.
-use Rattle.std.specs.Prelude.{◌≡◌, ℕ, Bool, true, false, cond, List, eqb, length, replicate}
+use Rattle.std.specs.Prelude.{◌≡◌, ℕ, cond, List, eqb, length, replicate}
 use Rattle.layers.specs.Bytes.{least, laid}
 use Rattle.layers.specs.Names.{Name}
 use Rattle.layers.specs.Items.{records_of, entries_of, entry_at, free_record, free_entry, with_record, with_entry, record_put, entry_put}

@@ -1,7 +1,7 @@
 -- Lists in byte order of names, each name once. Assumes nothing.
 use Rattle.std.specs.Prelude.{◌≡◌, List, [], ◌∷◌}
 use Rattle.layers.specs.Names.{Name, order_of}
-use Rattle.layers.specs.declared.names.Order.TheVariants.{Before, Same, After}
+use Rattle.layers.specs.declared.names.Order.TheVariants.{Before}
 
 -- the name comes before every item's
 abbrev pub Below : {A : Type 0} → (A → Name) → Name → List A → Type 0

@@ -6,7 +6,7 @@ ghost use Rattle.layers.specs.Items.{record_of, entry_of, records_of, entries_of
 use crate::bytes;
 
 // Every byte of a record's 32 is a field.
-#[derive(Drop)]
+#[derive(Clone, Copy)]
 pub struct Record {
     pub number: u8,
     pub kind: u8,
@@ -20,7 +20,7 @@ pub struct Record {
 }
 
 // Every byte of an entry's 32 is a field.
-#[derive(Drop)]
+#[derive(Clone, Copy)]
 pub struct Entry {
     pub parent: u8,
     pub child: u8,

@@ -2,7 +2,7 @@
 ghost use Rattle.std.specs.Prelude.{◌≡◌};
 ghost use Rattle.layers.specs.Kinds.{kind_number, kind_of};
 
-#[derive(Drop)]
+#[derive(Clone, Copy)]
 pub enum Kind {
     Fifo,
     Character,

@@ -1,4 +1,6 @@
 // The layer tables: bytes, names, records, entries, the search of one layer, and the table rules.
+#![tactic(auto)]
+
 pub mod bytes;
 pub mod change;
 mod distinct;

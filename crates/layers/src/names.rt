@@ -6,7 +6,7 @@ ghost use Rattle.layers.specs.Names.{same_name, holds, malformed_name, order_of}
 use crate::bytes;
 
 // How one name stands to another in byte order.
-#[derive(Drop)]
+#[derive(Clone, Copy)]
 pub enum Order {
     Before,
     Same,

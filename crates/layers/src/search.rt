@@ -6,7 +6,7 @@ ghost use Rattle.layers.specs.Search.{name_of, is_free, no_record, names, names_
 use crate::{bytes, names};
 
 // A place, or that there is none.
-#[derive(Drop)]
+#[derive(Clone, Copy)]
 pub enum Found {
     At(usize),
     Missing,

@@ -3,7 +3,7 @@ ghost use Rattle.std.specs.Prelude.{◌≡◌};
 ghost use Rattle.layers.specs.Order.{put_in};
 
 // Where a name belongs among others, or that it stands there.
-#[derive(Drop)]
+#[derive(Clone, Copy)]
 pub enum Spot {
     Free(usize),
     Taken,

@@ -5,7 +5,7 @@ ghost use Rattle.merge.specs.Heads.{next_of, head_of, with_head, more, fewer, nu
 
 use crate::node;
 
-#[derive(Drop)]
+#[derive(Clone, Copy)]
 pub struct Head {
     pub next: u64,
     pub count: u32,

@@ -1,4 +1,5 @@
 // Stack merge, directory scan, and the nodes in the lent state.
+#![tactic(auto)]
 pub mod change;
 pub mod forget;
 pub mod head;

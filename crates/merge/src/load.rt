@@ -18,7 +18,7 @@ use crate::{change, head, scan, stacks, state, tables};
 use layers::search::Found;
 
 // What became of a load.
-#[derive(Drop)]
+#[derive(Clone, Copy)]
 pub enum Loading {
     Done,
     NoRoom,

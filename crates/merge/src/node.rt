@@ -7,7 +7,7 @@ ghost use Rattle.merge.specs.Methods.{with_number, with_white, with_loaded, with
 use crate::stacks::Pair;
 
 // Every byte of a node's 52 is a field.
-#[derive(Drop)]
+#[derive(Clone, Copy)]
 pub struct Node {
     pub number: u32,
     pub parent: u32,

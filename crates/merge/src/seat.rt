@@ -7,7 +7,7 @@ use crate::{head, state};
 use layers::names::Order;
 use layers::search::Found;
 
-#[derive(Drop)]
+#[derive(Clone, Copy)]
 pub enum Seat {
     // The place of the name's node.
     Held(usize),

@@ -16,14 +16,14 @@ use layers::items::Record;
 use layers::search::Found;
 
 // A record of a layer: layer 0 is the upper one, 1 to 3 are the lower ones in order.
-#[derive(Drop)]
+#[derive(Clone, Copy)]
 pub struct Pair {
     pub layer: u8,
     pub number: u8,
 }
 
 // What a record is to the merge.
-#[derive(Drop)]
+#[derive(Clone, Copy)]
 pub enum Class {
     Whiteout,
     Other,
@@ -32,14 +32,14 @@ pub enum Class {
 }
 
 // What a layer has under a name in one of its directories.
-#[derive(Drop)]
+#[derive(Clone, Copy)]
 pub enum Seen {
     Nothing,
     There(Class, u8),
 }
 
 // "a stack of 4 places with a length", topmost first; places past the length are 0. The mark is that of the first record.
-#[derive(Drop)]
+#[derive(Clone, Copy)]
 pub struct Stack {
     pub pairs: [Pair; 4],
     pub length: usize,

@@ -5,7 +5,7 @@ use crate::{memory, words};
 use layers::items::{Entry, Record};
 
 // What became of a line.
-#[derive(Drop)]
+#[derive(Clone, Copy)]
 pub enum Put {
     Done,
     NoSuchLine,

@@ -1,0 +1,6 @@
+use Rattle.layers.proofs.NameLaws.{same_lengths}
+use borrow.Author.Rules.{rules}
+use Rattle.layers.proofs.names.same_name.Goals as goal
+
+pub returns-then-a-b : goal.returns-then-a-b
+returns-then-a-b c = search (same_lengths, rules)

@@ -1,0 +1,16 @@
+use Rattle.layers.proofs.Cases.{cases}
+use Rattle.layers.specs.Rules.{once_named_test}
+use borrow.Author.Rules.{rules}
+use Rattle.layers.proofs.tally.is_named_once.Goals as goal
+
+pub returns-then-r-ne4 : goal.returns-then-r-ne4
+unfolding once_named_test
+returns-then-r-ne4 c = search (cases, rules) depth 12
+
+pub returns-then-i-eq1 : goal.returns-then-i-eq1
+unfolding once_named_test
+returns-then-i-eq1 c = search (cases, rules) depth 12
+
+pub returns : goal.returns
+unfolding once_named_test
+returns c = search (cases, rules) depth 12
