@@ -2,9 +2,7 @@
 use mathlib.Core.Path.{◌≡◌, refl, sym, ap, ◌∙◌}
 use Prim.Native.Nat.{ℕ, ◌+◌, ◌*◌, ◌-◌, ◌≤◌, ◌<◌}
 use native.Mathlib.Omega.{arith}
-use mathlib.Core.Bool.{cond}
 use mathlib.Core.List.{List}
-use lib.Dec.{ltb}
 use lib.ListN.{length, take, drop, length-take, length-drop}
 use lib.Seq.{take-take}
 use borrow.Author.Tests.{lt-ltb, le-ltb}
@@ -14,7 +12,6 @@ use Rattle.layers.specs.declared.names.Order.{Order}
 use Rattle.layers.specs.declared.names.Order.TheVariants.{Before, After}
 use Rattle.layers.proofs.Determined.{bytes_drop, bytes_take}
 use Rattle.layers.proofs.OrderWords.{word_before, word_after}
-use Rattle.merge.specs.declared.node.Node.{Node}
 use Rattle.merge.specs.Nodes.{count_of, nodes_of, node_at, node_name}
 use Rattle.merge.specs.State.{top_word, lead_of}
 use Rattle.merge.proofs.StateLaws.{name_is}

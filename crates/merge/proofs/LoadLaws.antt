@@ -1,16 +1,16 @@
 -- A load as the code runs it: the names that have no node, kept in place, and a node for each. Assumes nothing.
-use mathlib.Core.Path.{◌≡◌, refl, sym, ap, ap₂, ◌∙◌, subst}
-use Prim.Native.Nat.{ℕ, zero, suc, ◌+◌, ◌≤◌, ◌<◌}
+use mathlib.Core.Path.{◌≡◌, refl, sym, ap, ◌∙◌, subst}
+use Prim.Native.Nat.{ℕ, suc, ◌+◌, ◌≤◌, ◌<◌}
 use native.Mathlib.Omega.{arith}
 use native.Mathlib.Numerals.{add-one}
 use mathlib.Core.Bool.{Bool, true, false, not, cond}
 use mathlib.Core.List.{List, [], ◌∷◌, ◌++◌, map, append-nil}
-use lib.Dec.{eqb, ltb, leb}
+use lib.Dec.{eqb, leb}
 use lib.ListN.{length, take, drop, get_or, set, length-take, length-set, length-map, drop_of_length-le}
 use lib.Seq.{drop-cons, get_or-take, get_or-drop, take-suc-set, drop-set-lt, append_snoc, drop-drop, length-take-le}
-use borrow.Author.Tests.{eq-eqb, ne_eqb, le-leb, lt-leb}
+use borrow.Author.Tests.{le-leb, lt-leb}
 use Rattle.layers.specs.Names.{Name, same_name}
-use Rattle.layers.specs.Search.{one, first_from}
+use Rattle.layers.specs.Search.{first_from}
 use Rattle.layers.specs.declared.search.Found.{Found}
 use Rattle.layers.specs.declared.search.Found.TheVariants.{At, Missing}
 use Rattle.merge.specs.Nodes.{nodes_of, node_at, node_name}
@@ -19,7 +19,7 @@ use Rattle.merge.specs.Heads.{room_of, numbers_left}
 use Rattle.merge.specs.State.{is_child, has_parent, has_children, find_child, is_found, those}
 use Rattle.merge.specs.Changes.{put_bytes, new_bytes}
 use Rattle.merge.specs.Tables.{place_name}
-use Rattle.merge.specs.Scan.{scanned, merged_names}
+use Rattle.merge.specs.Scan.{scanned}
 use Rattle.merge.specs.Tops.{top_place, Topmost}
 use Rattle.merge.specs.Places.{merged_places, Filled}
 use Rattle.merge.specs.Stacks.{merged_stack}
@@ -29,7 +29,6 @@ use Rattle.merge.proofs.TopPlaces.{All, all_at, all_those, merged_tops}
 use Rattle.merge.specs.declared.stacks.Pair.{Pair}
 use Rattle.merge.specs.declared.stacks.Stack.{Stack}
 use Rattle.merge.specs.declared.node.Node.{Node}
-use Rattle.merge.specs.declared.load.Loading.{Loading}
 use Rattle.merge.specs.declared.load.Loading.TheVariants.{Done, NoRoom}
 
 pub none_there : (ns : List Node) (p : ℕ) (x : Name) (f : Found) → f ≡ find_child ns p x → f ≡ Missing → true ≡ has_none ns p x

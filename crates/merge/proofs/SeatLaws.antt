@@ -7,7 +7,7 @@ use mathlib.Core.Bool.{Bool, true, false, cond}
 use mathlib.Core.List.{List, ◌∷◌}
 use lib.Dec.{ltb}
 use lib.ListN.{length}
-use borrow.Author.Tests.{lt-ltb, le-ltb, ltb-true, ltb-false, leb-false}
+use borrow.Author.Tests.{lt-ltb, le-ltb, ltb-true, leb-false}
 use Rattle.layers.specs.Names.{Name, order_of}
 use Rattle.layers.specs.declared.names.Order.{Order}
 use Rattle.layers.specs.declared.names.Order.TheVariants.{Before, Same, After}

@@ -1,13 +1,13 @@
 -- A node passed over by the first 8 bytes of its name. Assumes nothing.
 use mathlib.Core.Path.{◌≡◌, refl, sym, ap, ◌∙◌}
-use Prim.Native.Nat.{ℕ, zero, suc, ◌+◌, ◌*◌, ◌-◌, ◌≤◌, ◌<◌}
+use Prim.Native.Nat.{ℕ, ◌+◌, ◌*◌, ◌≤◌, ◌<◌}
 use native.Mathlib.Omega.{arith}
 use mathlib.Core.Bool.{Bool, true, false, cond}
-use mathlib.Core.List.{List, [], ◌∷◌}
+use mathlib.Core.List.{List}
 use lib.Dec.{eqb}
 use lib.ListN.{length, take, drop, length-take}
 use lib.Seq.{take-take}
-use Rattle.layers.specs.Bytes.{part, le_of, number_at}
+use Rattle.layers.specs.Bytes.{le_of, number_at}
 use Rattle.layers.specs.Names.{Name, same_name}
 use Rattle.layers.proofs.Numbers.{number_in}
 use Rattle.layers.proofs.NameLaws.{same_true}

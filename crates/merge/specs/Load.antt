@@ -1,5 +1,5 @@
 -- Loading a directory: a node for each merged name that has none. Assumes nothing.
-use Rattle.std.specs.Prelude.{◌≡◌, ℕ, ◌≤◌, Bool, true, false, not, cond, List, [], ◌∷◌, map, eqb, leb, length, take, replicate}
+use Rattle.std.specs.Prelude.{◌≡◌, ℕ, ◌≤◌, Bool, false, not, cond, List, [], ◌∷◌, map, eqb, leb, length, take, replicate}
 use Rattle.layers.specs.Bytes.{least, laid}
 use Rattle.layers.specs.Names.{Name}
 use Rattle.layers.specs.Search.{one}

@@ -1,5 +1,6 @@
 // Stack merge, directory scan, and the nodes in the lent state.
 #![tactic(auto)]
+
 pub mod change;
 pub mod forget;
 pub mod head;

@@ -1,0 +1,11 @@
+use Rattle.layers.specs.Bytes.{over, part}
+use lib.ListN.{length}
+use Prim.Native.Nat.{◌+◌, ◌-◌, ◌≤◌}
+use mathlib.Core.Path.{◌≡◌}
+use Rattle.merge.proofs.change.move_down.Given as goal
+
+abbrev pub invariant-loop-i : goal.invariant-loop-i
+invariant-loop-i l = (l.i ≤ l.n) × (length l.t ≡ length l.initial.t) × (l.t ≡ over l.initial.t (52 + l.i) (part l.initial.t (0 + l.i) (l.n - l.i)))
+
+abbrev pub decreases-loop-i : goal.decreases-loop-i
+decreases-loop-i l = l.i

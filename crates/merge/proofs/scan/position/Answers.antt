@@ -1,0 +1,18 @@
+use Rattle.layers.proofs.SortLaws.{halved_start, halved_end, halved_before, halved_same, halved_after}
+use borrow.Author.Rules.{rules}
+use Rattle.merge.proofs.scan.position.Goals as goal
+
+pub loop-lo-init : goal.loop-lo-init
+loop-lo-init c = search (halved_start, rules)
+
+pub loop-lo-preserved-in-Before : goal.loop-lo-preserved-in-Before
+loop-lo-preserved-in-Before c = search (halved_before, rules)
+
+pub returns-in-Same : goal.returns-in-Same
+returns-in-Same c = search (halved_same, rules)
+
+pub loop-lo-preserved : goal.loop-lo-preserved
+loop-lo-preserved c = search (halved_after, rules)
+
+pub returns : goal.returns
+returns c = search (halved_end, rules)

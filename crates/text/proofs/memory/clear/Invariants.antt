@@ -1,0 +1,10 @@
+use Rattle.std.proofs.Common.{◌≡◌, ◌-◌, ◌≤◌, length, length-set, rules}
+use Rattle.text.proofs.memory.clear.Reads as reads
+use Rattle.text.proofs.memory.clear.Lts as lts
+use Rattle.text.proofs.memory.clear.Given as goal
+
+abbrev pub invariant-loop-i : goal.invariant-loop-i
+invariant-loop-i l = (l.i ≤ length l.t) × (length l.t ≡ length l.initial.t)
+
+abbrev pub decreases-loop-i : goal.decreases-loop-i
+decreases-loop-i l = length l.t - l.i
