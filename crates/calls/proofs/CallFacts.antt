@@ -1,6 +1,6 @@
 -- What the definitions of the calls say together: refusals, long names, how large a value is. Assumes nothing.
 use mathlib.Core.Path.{◌≡◌, refl, sym, ap, ◌∙◌}
-use Prim.Native.Nat.{ℕ, ◌+◌, ◌*◌, ◌/◌, ◌%◌, ◌≤◌, ◌<◌}
+use Prim.Native.Nat.{ℕ, ◌*◌, ◌/◌, ◌%◌, ◌≤◌, ◌<◌}
 use native.Mathlib.Omega.{arith}
 use native.Mathlib.Nat.{mul-mod_right, mul-div_cancel_left}
 use mathlib.Core.Bool.{Bool, true, false, not, cond}

@@ -1,5 +1,5 @@
 -- The node that a call names by its number: known, whiteout, a directory; and its load. Assumes nothing.
-use Rattle.std.specs.Prelude.{ℕ, Bool, true, false, not, cond, List, [], ◌∷◌, ◌++◌, eqb, length, get_or}
+use Rattle.std.specs.Prelude.{ℕ, Bool, false, not, cond, List, [], ◌∷◌, ◌++◌, eqb, length, get_or}
 use Rattle.layers.specs.declared.search.Found.{Found}
 use Rattle.layers.specs.declared.search.Found.TheVariants.{At, Missing}
 use Rattle.merge.specs.Nodes.{no_pair, nodes_of, node_at}

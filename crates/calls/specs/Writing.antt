@@ -1,12 +1,12 @@
 -- What a call that writes leaves, and the tests of a parent in which something is made. Assumes nothing.
-use Rattle.std.specs.Prelude.{ℕ, Bool, false, not, cond, List, [], ◌∷◌, ◌++◌, eqb, ltb, length}
+use Rattle.std.specs.Prelude.{ℕ, Bool, false, not, cond, List, ◌++◌, eqb, ltb, length}
 use Rattle.layers.specs.Names.{Name}
 use Rattle.layers.specs.declared.search.Found.{Found}
 use Rattle.layers.specs.declared.search.Found.TheVariants.{At, Missing}
 use Rattle.merge.specs.Nodes.{nodes_of, node_at}
 use Rattle.merge.specs.State.{is_found}
 use Rattle.merge.specs.Load.{suffices}
-use Rattle.calls.specs.Refusal.{Test, test, after_tests, passed, Outcome}
+use Rattle.calls.specs.Refusal.{Test, after_tests, passed}
 use Rattle.calls.specs.Parents.{place_numbered, is_white, load_tests, loading_call}
 use Rattle.calls.specs.Lookup.{name_in}
 use Rattle.calls.specs.Upper.{Up}

@@ -1,4 +1,4 @@
-// The exported C functions: a slice is a pointer and then a length.
+// The calls as C has them: numbers and slices, and an answer as one number. The crate calls_c exports them.
 ghost use Rattle.std.specs.Prelude.{◌≡◌};
 ghost use Rattle.calls.specs.Refusal.{errno_of, packed};
 ghost use Rattle.calls.specs.Import.{import_spec};
@@ -13,15 +13,13 @@ ghost use Rattle.calls.specs.NodeCall.{node_answer, node_out};
 
 use crate::{copy_up, count, creation, forget, import, link, listing, lookup, node, refusal};
 
-#[unsafe(no_mangle)]
-pub extern "C" fn overlay_import<'a>(state: &mut [u8], upper: &'a [u8], lower: &'a [u8]) -> u32
+pub fn overlay_import<'a>(state: &mut [u8], upper: &'a [u8], lower: &'a [u8]) -> u32
     ensures { (result ≡ errno_of (import_spec upper.now lower.now state.old).answer) × (state.new ≡ (import_spec upper.now lower.now state.old).state) }
 {
     refusal::errno_of(import::import(state, upper, lower))
 }
 
-#[unsafe(no_mangle)]
-pub extern "C" fn overlay_lookup<'a>(
+pub fn overlay_lookup<'a>(
     state: &mut [u8],
     upper: &'a [u8],
     lower: &'a [u8],
@@ -33,20 +31,13 @@ pub extern "C" fn overlay_lookup<'a>(
     refusal::packed(lookup::lookup(state, upper, lower, parent, name))
 }
 
-#[unsafe(no_mangle)]
-pub extern "C" fn overlay_count<'a>(
-    state: &mut [u8],
-    upper: &'a [u8],
-    lower: &'a [u8],
-    node: u64,
-) -> u64
+pub fn overlay_count<'a>(state: &mut [u8], upper: &'a [u8], lower: &'a [u8], node: u64) -> u64
     ensures { (result ≡ packed (count_spec upper.now lower.now state.old node).answer) × (state.new ≡ (count_spec upper.now lower.now state.old node).state) }
 {
     refusal::packed(count::count_entries_and_whiteout(state, upper, lower, node))
 }
 
-#[unsafe(no_mangle)]
-pub extern "C" fn overlay_mknod(
+pub fn overlay_mknod(
     state: &mut [u8],
     upper: &mut [u8],
     lower: &[u8],
@@ -72,8 +63,7 @@ pub extern "C" fn overlay_mknod(
     ))
 }
 
-#[unsafe(no_mangle)]
-pub extern "C" fn overlay_create(
+pub fn overlay_create(
     state: &mut [u8],
     upper: &mut [u8],
     lower: &[u8],
@@ -87,8 +77,7 @@ pub extern "C" fn overlay_create(
     refusal::packed(creation::create(state, upper, lower, parent, name, permissions, umask))
 }
 
-#[unsafe(no_mangle)]
-pub extern "C" fn overlay_symlink(
+pub fn overlay_symlink(
     state: &mut [u8],
     upper: &mut [u8],
     lower: &[u8],
@@ -101,8 +90,7 @@ pub extern "C" fn overlay_symlink(
     refusal::packed(creation::symlink(state, upper, lower, parent, name, content))
 }
 
-#[unsafe(no_mangle)]
-pub extern "C" fn overlay_link(
+pub fn overlay_link(
     state: &mut [u8],
     upper: &mut [u8],
     lower: &[u8],
@@ -115,20 +103,13 @@ pub extern "C" fn overlay_link(
     refusal::packed(link::link(state, upper, lower, source, parent, name))
 }
 
-#[unsafe(no_mangle)]
-pub extern "C" fn overlay_copy_up(
-    state: &mut [u8],
-    upper: &mut [u8],
-    lower: &[u8],
-    node: u64,
-) -> u32
+pub fn overlay_copy_up(state: &mut [u8], upper: &mut [u8], lower: &[u8], node: u64) -> u32
     ensures { (result ≡ errno_of (copy_up_spec upper.old lower.now state.old node).answer) × (state.new ≡ (copy_up_spec upper.old lower.now state.old node).state) × (upper.new ≡ (copy_up_spec upper.old lower.now state.old node).upper) }
 {
     refusal::errno_of(copy_up::copy_up(state, upper, lower, node))
 }
 
-#[unsafe(no_mangle)]
-pub extern "C" fn overlay_list<'a>(
+pub fn overlay_list<'a>(
     state: &mut [u8],
     upper: &'a [u8],
     lower: &'a [u8],
@@ -142,15 +123,13 @@ pub extern "C" fn overlay_list<'a>(
     refusal::packed(listing::listing(state, upper, lower, node, offset, size, buffer))
 }
 
-#[unsafe(no_mangle)]
-pub extern "C" fn overlay_forget(state: &mut [u8], node: u64, amount: u64)
+pub fn overlay_forget(state: &mut [u8], node: u64, amount: u64)
     ensures { state.new ≡ forget_call state.old node amount }
 {
     forget::forget(state, node, amount);
 }
 
-#[unsafe(no_mangle)]
-pub extern "C" fn overlay_node(state: &[u8], node: u64, out: &mut [u8]) -> u32
+pub fn overlay_node(state: &[u8], node: u64, out: &mut [u8]) -> u32
     ensures { (result ≡ errno_of (node_answer state.now node out.old)) × (out.new ≡ node_out state.now node out.old) }
 {
     refusal::errno_of(node::node(state, node, out))

@@ -1,5 +1,6 @@
 // The calls, each one total function of the lent memory, and the exported C functions.
 #![tactic(auto)]
+
 pub mod copy_up;
 pub mod count;
 pub mod creation;

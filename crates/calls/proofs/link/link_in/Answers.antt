@@ -1,0 +1,6 @@
+use Rattle.calls.proofs.LinkLaws.{in_answered, in_left, in_wrote}
+use borrow.Author.Rules.{rules}
+use Rattle.calls.proofs.link.link_in.Goals as goal
+
+pub returns : goal.returns
+returns c = (search (in_answered, rules), search (in_left, rules), search (in_wrote, rules))

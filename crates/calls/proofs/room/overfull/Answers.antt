@@ -1,0 +1,9 @@
+use Rattle.calls.proofs.RoomLaws.{over_records, over_entries}
+use borrow.Author.Rules.{rules}
+use Rattle.calls.proofs.room.overfull.Goals as goal
+
+pub returns-then-not-has_free_records : goal.returns-then-not-has_free_records
+returns-then-not-has_free_records c = search (over_records, rules)
+
+pub returns : goal.returns
+returns c = search (over_entries, rules)
