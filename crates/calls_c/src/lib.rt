@@ -1,7 +1,6 @@
 // The exported C functions: a slice is a pointer and then a length. Each calls the function of its name in the library.
 #![tactic(auto)]
 
-
 ghost use Rattle.std.specs.Prelude.{◌≡◌};
 ghost use Rattle.calls.specs.Refusal.{errno_of, packed};
 ghost use Rattle.calls.specs.Import.{import_spec};
@@ -62,7 +61,17 @@ pub extern "C" fn overlay_mknod(
 ) -> u64
     ensures { (result ≡ packed (mknod_spec upper.old lower.now state.old parent name.now kind permissions umask device).answer) × (state.new ≡ (mknod_spec upper.old lower.now state.old parent name.now kind permissions umask device).state) × (upper.new ≡ (mknod_spec upper.old lower.now state.old parent name.now kind permissions umask device).upper) }
 {
-    face::overlay_mknod(state, upper, lower, parent, name, kind, permissions, umask, device)
+    face::overlay_mknod(
+        state,
+        upper,
+        lower,
+        parent,
+        name,
+        kind,
+        permissions,
+        umask,
+        device,
+    )
 }
 
 #[unsafe(no_mangle)]

@@ -1,7 +1,7 @@
 -- What a creation or a link writes over a whiteout of a lower layer keeps what holds between calls. Assumes nothing.
 use mathlib.Core.Path.{◌≡◌, refl, sym, ap, ap₂, ◌∙◌, subst}
 use mathlib.Core.Logic.{◌≢◌}
-use Prim.Native.Nat.{ℕ, zero, ◌≤◌, ◌<◌}
+use Prim.Native.Nat.{ℕ, ◌≤◌, ◌<◌}
 use native.Mathlib.Omega.{arith}
 use mathlib.Core.Bool.{Bool, true, false, not}
 use mathlib.Core.List.{List, [], ◌∷◌}
@@ -22,7 +22,7 @@ use Rattle.merge.specs.Methods.{with_white, alone}
 use Rattle.merge.specs.Heads.{next_of}
 use Rattle.merge.specs.Seats.{seat_of, holder}
 use Rattle.merge.specs.Tables.{table_of}
-use Rattle.merge.specs.Classes.{is_whiteout, is_directory, named, seen_of}
+use Rattle.merge.specs.Classes.{is_whiteout, is_directory, seen_of}
 use Rattle.merge.specs.Scan.{is_walked}
 use Rattle.merge.specs.Stacks.{pair, stack_of, whiteout_of}
 use Rattle.merge.specs.Load.{stack_list, is_loaded}
@@ -54,7 +54,7 @@ use Rattle.demands.proofs.CopiedFile.{top_first, mark_none, named_stands, unseen
 use Rattle.demands.proofs.FilledNew.{Makeable, made_valid, made_here, made_root, made_changed, made_stack, made_mark}
 use Rattle.demands.proofs.LinkedNew.{link_valid, link_record, link_changed, link_sound, link_stack, link_mark, source_file, source_there, source_live, parent_there, parent_stack}
 use Rattle.demands.proofs.SoundUpper.{sound_changed}
-use Rattle.demands.proofs.GivenNode.{given, given_key, given_number, given_white, given_loaded, given_stack, given_tidy}
+use Rattle.demands.proofs.GivenNode.{given_key, given_number, given_white, given_loaded, given_stack, given_tidy}
 
 marked_one : (b : Bool) (m : ℕ) → m ≡ one b → not (eqb m 0) ≡ true → b ≡ true
 unfolding one

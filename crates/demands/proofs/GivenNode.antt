@@ -2,10 +2,8 @@
 use mathlib.Core.Path.{◌≡◌, refl}
 use Prim.Native.Nat.{ℕ, zero, suc, ◌≤◌}
 use native.Mathlib.Omega.{arith}
-use mathlib.Core.Bool.{not}
-use mathlib.Core.List.{List, [], ◌∷◌}
-use lib.ListN.{length, get_or}
-use Rattle.layers.specs.Search.{one}
+use mathlib.Core.List.{[], ◌∷◌}
+use lib.ListN.{get_or}
 use Rattle.layers.proofs.Padded.{get_or_all}
 use Rattle.merge.specs.Nodes.{no_pair, key_of}
 use Rattle.merge.specs.Tidy.{Tidy}

@@ -130,6 +130,7 @@ within_first a q p e (here r) z = ap (λ (n : Pair). n.layer) (sym r) ∙ z
 within_first a q p e (there i) z = absurd (go q e i)
   where
     go : (q : List Pair) → Each Lower q → In p q → ⊥
+    go [] e i = elim i [ ]
     go (x ∷ q) e (here r) = e.0 (ap (λ (n : Pair). n.layer) (sym r) ∙ z)
     go (x ∷ q) e (there i) = go q e.1 i
 

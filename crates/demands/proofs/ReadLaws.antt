@@ -1,23 +1,22 @@
 -- An accepted import leaves what holds between calls, and every call that changes no layer keeps it. Assumes nothing.
-use mathlib.Core.Path.{◌≡◌, refl, sym, ap, ◌∙◌, subst}
-use Prim.Native.Nat.{ℕ, zero, suc, ◌≤◌, ◌<◌}
+use mathlib.Core.Path.{◌≡◌, refl, sym, ◌∙◌, subst}
+use Prim.Native.Nat.{ℕ, zero, suc, ◌<◌}
 use native.Mathlib.Omega.{arith}
 use mathlib.Core.Bool.{Bool, true, false, not, cond}
 use mathlib.Core.List.{List, [], ◌∷◌, ◌++◌}
-use lib.Dec.{eqb, ltb}
+use lib.Dec.{eqb}
 use lib.ListN.{length}
 use borrow.Author.Tests.{ne_eqb, lt-ltb, not-false}
 use Rattle.layers.specs.Names.{Name}
-use Rattle.layers.specs.Items.{entries_of}
 use Rattle.layers.specs.Rules.{valid_test, Valid}
 use Rattle.layers.proofs.RuleTheorem.{valid_exactly}
 use Rattle.merge.specs.Tables.{table_of}
 use Rattle.merge.specs.Root.{root_state}
 use Rattle.merge.specs.Load.{load_bytes}
-use Rattle.calls.specs.Refusal.{Test, test, after_tests, passed}
+use Rattle.calls.specs.Refusal.{Test, test, passed}
 use Rattle.calls.specs.Lengths.{state_fits, lengths_test}
 use Rattle.calls.specs.Parents.{place_numbered, parent_tests, load_tests, loaded_state}
-use Rattle.calls.specs.Import.{no_layer, broken_layer, import_tests, root_tests, blank, wiped, rooted, import_spec}
+use Rattle.calls.specs.Import.{no_layer, broken_layer, import_tests, root_tests, blank, rooted, import_spec}
 use Rattle.calls.specs.Lookup.{lookup_before, name_tests, place_named, counted_state, lookup_spec}
 use Rattle.calls.specs.Count.{count_before, count_spec}
 use Rattle.calls.specs.Listing.{listed, list_loaded, list_spec}

@@ -1,28 +1,26 @@
 -- A refusal is given exactly when its rule says, and changes nothing but what a load did before it: of every call. Assumes nothing.
-use mathlib.Core.Path.{◌≡◌, refl, sym, ap, ◌∙◌, subst}
+use mathlib.Core.Path.{◌≡◌, refl, sym, ◌∙◌, subst}
 use mathlib.Core.Logic.{◌⊎◌, inl, inr}
 use mathlib.Core.Bool.{Bool, true, false, not, cond}
 use Prim.Native.Nat.{ℕ}
 use native.Mathlib.Omega.{arith}
 use mathlib.Core.List.{List, [], ◌∷◌, ◌++◌}
 use lib.Dec.{eqb}
-use Rattle.layers.specs.Names.{Name}
-use Rattle.layers.specs.declared.items.Record.{Record}
-use Rattle.calls.specs.Refusal.{Test, test, after_tests, passed, Outcome}
+use Rattle.calls.specs.Refusal.{Test, test, after_tests, passed}
 use Rattle.calls.specs.Lengths.{lengths_test}
 use Rattle.calls.specs.Parents.{place_numbered, parent_tests, load_tests, loaded_state, loading_call}
 use Rattle.calls.specs.Upper.{Up}
-use Rattle.calls.specs.Import.{import_tests, root_tests, wiped, import_spec}
-use Rattle.calls.specs.Lookup.{lookup_before, name_tests, lookup_spec}
-use Rattle.calls.specs.Count.{count_before, count_spec}
+use Rattle.calls.specs.Import.{import_tests, root_tests, wiped}
+use Rattle.calls.specs.Lookup.{lookup_before, name_tests}
+use Rattle.calls.specs.Count.{count_before}
 use Rattle.calls.specs.Dirents.{room_of}
 use Rattle.calls.specs.Pages.{page_of, page_over}
 use Rattle.calls.specs.Listing.{page_value, loaded_listing, listed, list_loaded, list_spec}
-use Rattle.calls.specs.NodeCall.{node_tests, node_answer, node_out}
-use Rattle.calls.specs.Writing.{Written, writing_call}
-use Rattle.calls.specs.Creation.{creation_before, creation_behind, creation_spec}
-use Rattle.calls.specs.Link.{link_before, link_behind, link_spec}
-use Rattle.calls.specs.CopyUp.{copy_up_before, copy_up_tests, copy_up_spec}
+use Rattle.calls.specs.NodeCall.{node_tests, node_out}
+use Rattle.calls.specs.Writing.{writing_call}
+use Rattle.calls.specs.Creation.{creation_before, creation_behind}
+use Rattle.calls.specs.Link.{link_before, link_behind}
+use Rattle.calls.specs.CopyUp.{copy_up_before, copy_up_tests}
 use Rattle.calls.specs.declared.refusal.Refusal.{Refusal}
 use Rattle.calls.specs.declared.refusal.Refusal.TheVariants.{Einval}
 use Rattle.calls.specs.declared.refusal.Answer.{Answer}
@@ -43,6 +41,7 @@ given_sound (t ∷ ts) v r e = go t.fails refl e (given_sound ts v r)
 
 given_whole : (ts : List Test) (v : ℕ) (r : Refusal) → Refuses ts r → after_tests ts (Fine v) ≡ Refused r
 unfolding after_tests
+given_whole [] v r h = elim h [ ]
 given_whole (t ∷ ts) v r (here f) = rw f refl
 given_whole (t ∷ ts) v r (behind f h) = rw f (given_whole ts v r h)
 

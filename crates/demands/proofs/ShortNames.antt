@@ -1,26 +1,17 @@
 -- Merged names have at most 28 bytes. Assumes nothing.
-use mathlib.Core.Path.{◌≡◌, refl, sym, ap, ◌∙◌}
-use Prim.Native.Nat.{ℕ, ◌-◌, ◌%◌, ◌/◌, ◌≤◌, ◌<◌}
+use mathlib.Core.Path.{◌≡◌, sym, ap, ◌∙◌}
+use Prim.Native.Nat.{ℕ, ◌%◌, ◌/◌, ◌≤◌, ◌<◌}
 use native.Mathlib.Omega.{arith}
 use native.Mathlib.Nat.{mod-lt}
-use mathlib.Core.Bool.{Bool, true, false}
-use mathlib.Core.List.{List, [], ◌++◌, map}
-use lib.Dec.{ltb}
-use lib.ListN.{length, take, get_or, replicate, length-append, length-take, length-drop, length-map, get_or-eq_default}
-use lib.Seq.{get_or-take}
-use borrow.Author.Tests.{le-ltb, ltb-true, ltb-false}
+use mathlib.Core.Bool.{true}
+use mathlib.Core.List.{List, [], map}
+use lib.ListN.{length, get_or, length-map}
 use Rattle.layers.specs.Names.{Name}
-use Rattle.layers.specs.Items.{entry_of, entries_of, entry_at}
-use Rattle.layers.specs.Search.{one, name_of}
-use Rattle.layers.proofs.Padded.{get_or_all, get_d_past, length_padded, name_back, name_past}
-use Rattle.layers.proofs.ItemLaws.{get_d_map, entry_is}
+use Rattle.layers.proofs.ItemLaws.{get_d_map}
 use Rattle.merge.specs.declared.stacks.Pair.{Pair}
-use Rattle.merge.specs.declared.node.Node.{Node}
-use Rattle.merge.specs.Nodes.{no_pair, node_name}
 use Rattle.merge.specs.Tables.{table_of, place_name}
 use Rattle.merge.specs.Scan.{merged_names}
 use Rattle.merge.specs.Places.{merged_places}
-use Rattle.merge.specs.Stacks.{stack_from}
 use Rattle.merge.proofs.NamedLaws.{has, has_at}
 use Rattle.merge.proofs.NamesOfPlaces.{names_of_places}
 use Rattle.merge.proofs.NewNodes.{entry_name_length}

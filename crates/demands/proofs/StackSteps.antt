@@ -10,7 +10,6 @@ use Rattle.layers.specs.Items.{records_of, entries_of, record_at, entry_at}
 use Rattle.layers.specs.Search.{name_of}
 use Rattle.layers.specs.Rules.{Used, Reaches, at_root, up, Valid}
 use Rattle.layers.specs.declared.items.Entry.{Entry}
-use Rattle.layers.specs.declared.search.Found.TheVariants.{At}
 use Rattle.layers.proofs.RuleFacts.{directory_once}
 use Rattle.merge.specs.declared.node.Node.{Node}
 use Rattle.merge.specs.declared.stacks.Pair.{Pair}

@@ -1,5 +1,5 @@
 -- What holds of a state and its layers between calls. Assumes nothing.
-use Rattle.std.specs.Prelude.{◌≡◌, ◌≢◌, true, false, cond, ℕ, zero, suc, ◌+◌, ◌*◌, ◌≤◌, ◌<◌, List, [], ◌∷◌, ◌++◌, eqb, length, drop, get_or, replicate}
+use Rattle.std.specs.Prelude.{◌≡◌, ◌≢◌, true, cond, ℕ, zero, suc, ◌+◌, ◌*◌, ◌≤◌, ◌<◌, List, [], ◌∷◌, ◌++◌, eqb, length, drop, get_or}
 use Rattle.layers.specs.Names.{Name}
 use Rattle.layers.specs.Search.{one}
 use Rattle.layers.specs.Sorted.{Sorted}
@@ -7,14 +7,12 @@ use Rattle.layers.specs.declared.search.Found.{Found}
 use Rattle.layers.specs.declared.search.Found.TheVariants.{At, Missing}
 use Rattle.merge.specs.declared.node.Node.{Node}
 use Rattle.merge.specs.Tidy.{Tidy}
-use Rattle.merge.specs.Nodes.{no_pair, no_node, node_name, key_of, count_of, nodes_of, node_at, FitsNode}
-use Rattle.merge.specs.Heads.{next_of, with_head}
+use Rattle.merge.specs.Nodes.{no_node, node_name, key_of, count_of, nodes_of, node_at}
+use Rattle.merge.specs.Heads.{next_of}
 use Rattle.merge.specs.State.{is_number, find_number, those}
-use Rattle.merge.specs.Changes.{put_in_bytes}
-use Rattle.merge.specs.Stacks.{stack_of, whiteout_of, stack_from}
+use Rattle.merge.specs.Stacks.{stack_of, whiteout_of}
 use Rattle.merge.specs.Fresh.{root_stack}
 use Rattle.merge.specs.Load.{stack_list, is_loaded}
-use Rattle.merge.specs.declared.stacks.Stack.{Stack}
 
 -- ---- the node of each number
 

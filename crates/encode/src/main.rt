@@ -1,5 +1,6 @@
 // Turns a layer's table as text into its 8192 bytes. No line, no byte.
 #![tactic(auto)]
+
 use text::encode::Put;
 use text::words;
 

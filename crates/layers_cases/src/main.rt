@@ -1,5 +1,6 @@
 // Runs the boundary cases of the layer tables: tables come as text, and each question prints a line.
 #![tactic(auto)]
+
 use layers::names::Order;
 use layers::search::Found;
 use text::encode::Put;

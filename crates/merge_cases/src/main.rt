@@ -14,7 +14,7 @@ use text::memory::first;
 use text::{memory, words};
 
 // Which layers there are, and which one the next lines fill.
-#[derive(Drop)]
+#[derive(Clone, Copy)]
 struct Desk {
     upper: usize,
     lower: usize,

@@ -15,7 +15,7 @@ use text::memory::first;
 use text::{memory, words};
 
 // How many bytes of each slice a call is given, which layer the next lines fill, and whether what a call left is shown.
-#[derive(Drop)]
+#[derive(Clone, Copy)]
 struct Desk {
     state: usize,
     upper: usize,

@@ -1,6 +1,4 @@
-use Rattle.std.proofs.Common.{◌≡◌, ◌-◌, ◌≤◌, length, length-set, rules}
-use Rattle.text.proofs.memory.clear.Reads as reads
-use Rattle.text.proofs.memory.clear.Lts as lts
+use Rattle.std.proofs.Common.{length-set, rules}
 use Rattle.text.proofs.memory.clear.Goals as goal
 
 -- src/main.rt:207:5

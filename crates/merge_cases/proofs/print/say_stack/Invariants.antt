@@ -1,0 +1,13 @@
+use Prim.Native.Nat.{◌≤◌, ◌-◌}
+use borrow.Author.Rules.{rules}
+use Rattle.merge_cases.proofs.print.say_stack.Reads as reads
+use Rattle.merge_cases.proofs.print.say_stack.Lts as lts
+use Rattle.merge_cases.proofs.print.say.Reads as say-reads
+use Rattle.merge_cases.proofs.print.say_pair.Reads as say-pair-reads
+use Rattle.merge_cases.proofs.print.say_stack.Given as goal
+
+abbrev pub invariant-loop-i : goal.invariant-loop-i
+invariant-loop-i l = l.i ≤ 4
+
+abbrev pub decreases-loop-i : goal.decreases-loop-i
+decreases-loop-i l = 4 - l.i

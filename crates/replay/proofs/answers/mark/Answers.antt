@@ -1,0 +1,11 @@
+use mathlib.Core.Path.{◌≡◌}
+use lib.ListN.{length, length-set}
+use Prim.Native.Nat.{◌≤◌, ◌-◌}
+use borrow.Author.Rules.{rules}
+use Rattle.replay.proofs.answers.mark.Goals as goal
+
+pub loop-i-smaller : goal.loop-i-smaller
+loop-i-smaller c = simp length-set (search rules)
+
+pub loop-i-preserved : goal.loop-i-preserved
+loop-i-preserved c = (simp length-set (search rules), simp length-set (search rules))

@@ -1,0 +1,11 @@
+use mathlib.Core.Path.{◌≡◌}
+use lib.ListN.{length, length-set}
+use Prim.Native.Nat.{◌≤◌, ◌-◌}
+use borrow.Author.Rules.{rules}
+use Rattle.replay.proofs.answers.mark.Given as goal
+
+abbrev pub invariant-loop-i : goal.invariant-loop-i
+invariant-loop-i l = (l.i ≤ length l.t) × (length l.t ≡ length l.initial.t)
+
+abbrev pub decreases-loop-i : goal.decreases-loop-i
+decreases-loop-i l = length l.t - l.i
