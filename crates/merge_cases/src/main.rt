@@ -1,5 +1,6 @@
 // Runs the worked cases of the merge and the nodes: layers come as text, and each question prints its answer.
 #![tactic(auto)]
+
 ghost use Rattle.std.specs.Prelude.{◌≤◌};
 
 mod print;

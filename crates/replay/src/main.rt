@@ -1,5 +1,6 @@
 // Replays calls on layer tables, both written as text, and prints each answer with what the call left. docs/REPLAY.md has the form.
 #![tactic(auto)]
+
 mod answers;
 mod print;
 mod reads;

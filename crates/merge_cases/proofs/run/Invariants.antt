@@ -1,11 +1,6 @@
 use mathlib.Core.Path.{◌≡◌}
 use lib.ListN.{length}
 use Prim.Native.Nat.{◌≤◌, ◌-◌}
-use borrow.Author.Rules.{rules}
-use Rattle.merge_cases.proofs.run.Reads as reads
-use Rattle.merge_cases.proofs.run.Lts as lts
-use Rattle.merge_cases.proofs.act.Reads as act-reads
-use Rattle.text.proofs.words.line.Reads as line_reads_lem
 use Rattle.merge_cases.proofs.run.Given as goal
 
 abbrev pub invariant-loop-a : goal.invariant-loop-a

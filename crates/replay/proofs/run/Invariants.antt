@@ -1,7 +1,6 @@
 use mathlib.Core.Path.{◌≡◌}
 use lib.ListN.{length}
 use Prim.Native.Nat.{◌≤◌, ◌-◌}
-use borrow.Author.Rules.{rules}
 use Rattle.replay.proofs.run.Given as goal
 
 abbrev pub invariant-loop-a : goal.invariant-loop-a

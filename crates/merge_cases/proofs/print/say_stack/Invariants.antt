@@ -1,9 +1,4 @@
 use Prim.Native.Nat.{◌≤◌, ◌-◌}
-use borrow.Author.Rules.{rules}
-use Rattle.merge_cases.proofs.print.say_stack.Reads as reads
-use Rattle.merge_cases.proofs.print.say_stack.Lts as lts
-use Rattle.merge_cases.proofs.print.say.Reads as say-reads
-use Rattle.merge_cases.proofs.print.say_pair.Reads as say-pair-reads
 use Rattle.merge_cases.proofs.print.say_stack.Given as goal
 
 abbrev pub invariant-loop-i : goal.invariant-loop-i

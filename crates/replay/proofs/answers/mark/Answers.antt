@@ -1,6 +1,4 @@
-use mathlib.Core.Path.{◌≡◌}
-use lib.ListN.{length, length-set}
-use Prim.Native.Nat.{◌≤◌, ◌-◌}
+use lib.ListN.{length-set}
 use borrow.Author.Rules.{rules}
 use Rattle.replay.proofs.answers.mark.Goals as goal
 

@@ -1,7 +1,6 @@
 use mathlib.Core.Path.{◌≡◌}
-use lib.ListN.{length, length-set}
-use Prim.Native.Nat.{◌≤◌, ◌-◌}
-use borrow.Author.Rules.{rules}
+use lib.ListN.{length}
+use Prim.Native.Nat.{◌-◌}
 use Rattle.replay.proofs.answers.say_dirents.Given as goal
 
 abbrev pub invariant-loop-a : goal.invariant-loop-a

@@ -1,6 +1,5 @@
-use lib.ListN.{length, length-set}
+use lib.ListN.{length}
 use Prim.Native.Nat.{◌≤◌, ◌-◌}
-use borrow.Author.Rules.{rules}
 use Rattle.replay.proofs.print.say_name.Given as goal
 
 abbrev pub invariant-loop-i : goal.invariant-loop-i

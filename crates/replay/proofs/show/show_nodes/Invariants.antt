@@ -1,6 +1,5 @@
 use mathlib.Core.Path.{◌≡◌}
-use Prim.Native.Nat.{◌≤◌, ◌-◌}
-use borrow.Author.Rules.{rules}
+use Prim.Native.Nat.{◌-◌}
 use Rattle.replay.proofs.show.show_nodes.Given as goal
 
 abbrev pub invariant-loop-j : goal.invariant-loop-j
