@@ -31,8 +31,13 @@ fn given_archive(archive: PathBuf) -> PathBuf {
 
 /// The archive itself is not watched here: made by this run it would be newer than the run, and the next build would make it again.
 fn made_archive(root: &Path) -> PathBuf {
-    for source in ["crates", "crates.txt", "tools/native"] {
+    for source in ["crates.txt", "tools/native"] {
         println!("cargo::rerun-if-changed={}", root.join(source).display());
+    }
+    // Not a crate's whole folder: its `out/` is written by the run itself.
+    let folders = fs::read_dir(root.join("crates")).into_iter().flatten().flatten().map(|c| c.path());
+    for part in folders.flat_map(|c| ["src", "specs", "proofs"].map(|p| c.join(p))).filter(|p| p.exists()) {
+        println!("cargo::rerun-if-changed={}", part.display());
     }
     let made = Command::new(root.join("tools/native")).stderr(Stdio::inherit()).output();
     let help = "put Rattle's command `rt` on the PATH, or name a made archive in OVERLAY_ARCHIVE";

@@ -28,17 +28,17 @@ use Rattle.calls.proofs.PageLaws.{put_answer_lem, put_over, fill_next, fill_full
 
 -- ---- the entry of a node under a name
 module _ (o limit : ℕ) (t : List ℕ) (at i : ℕ) (u l : List ℕ) (n : Node) where
-  module _ (x : Name) (k : ℕ) (k-is : k ≡ type_of u l (get_or n.stack 0 no_pair)) (h : o ≤ i) where
+  module _ (x : Name) (k : ℕ) (k_is : k ≡ type_of u l (get_or n.stack 0 no_pair)) (h : o ≤ i) where
     pub entry_answer_lem : (r : Put) → r ≡ put_answer limit t at (dirent (get_or n.stack 0 no_pair).number k x) → r ≡ entry_answer o limit t at i (dirent_of u l x n)
     unfolding dirent_of
-    entry_answer_lem r e = put_answer_lem o limit t at i (dirent_of u l x n) h r (e ∙ rw k-is refl)
+    entry_answer_lem r e = put_answer_lem o limit t at i (dirent_of u l x n) h r (e ∙ rw k_is refl)
 
     pub entry_over_lem : (v : List ℕ) → v ≡ put_dirent limit t at i (dirent (get_or n.stack 0 no_pair).number k x) → v ≡ entry_over o limit t at i (dirent_of u l x n)
     unfolding dirent_of
-    entry_over_lem v e = put_over o limit t at i (dirent_of u l x n) h v (e ∙ rw k-is refl)
+    entry_over_lem v e = put_over o limit t at i (dirent_of u l x n) h v (e ∙ rw k_is refl)
 
   -- a name's length byte above 28 gives the whole 28
-  module _ (x : Name) (m : ℕ) (m-is : m ≡ n.length) where
+  module _ (x : Name) (m : ℕ) (m_is : m ≡ n.length) where
     whole : 28 < m → length x ≡ 28 → take n.length x ≡ x
     whole h k = take_all n.length x (omega arith)
 
@@ -49,10 +49,10 @@ module _ (o limit : ℕ) (t : List ℕ) (at i : ℕ) (u l : List ℕ) (n : Node)
     whole_over h k v e = e ∙ ap (λ (y : Name). entry_over o limit t at i (dirent_of u l y n)) (sym (whole h k))
 
     pub cut_answer : (r : Put) → r ≡ entry_answer o limit t at i (dirent_of u l (take m x) n) → r ≡ entry_answer o limit t at i (dirent_of u l (take n.length x) n)
-    cut_answer r e = e ∙ ap (λ (j : ℕ). entry_answer o limit t at i (dirent_of u l (take j x) n)) m-is
+    cut_answer r e = e ∙ ap (λ (j : ℕ). entry_answer o limit t at i (dirent_of u l (take j x) n)) m_is
 
     pub cut_over : (v : List ℕ) → v ≡ entry_over o limit t at i (dirent_of u l (take m x) n) → v ≡ entry_over o limit t at i (dirent_of u l (take n.length x) n)
-    cut_over v e = e ∙ ap (λ (j : ℕ). entry_over o limit t at i (dirent_of u l (take j x) n)) m-is
+    cut_over v e = e ∙ ap (λ (j : ℕ). entry_over o limit t at i (dirent_of u l (take j x) n)) m_is
 
 -- ---- the loop
 
@@ -62,9 +62,9 @@ record Stands (s : List ℕ) (k j : ℕ) : Type 0 where
   below : j < count_of s
   most : count_of s ≤ 4294967295
 
-module _ (s : List ℕ) (x k : ℕ) (f : Found) (f-is : f ≡ child_from (nodes_of s) x k) (j : ℕ) (h : f ≡ At j) where
+module _ (s : List ℕ) (x k : ℕ) (f : Found) (f_is : f ≡ child_from (nodes_of s) x k) (j : ℕ) (h : f ≡ At j) where
   stands : Stands s k j
-  stands = record { after = child_after (nodes_of s) x k f f-is j h; below = rw (← length_nodes s) (child_below (nodes_of s) x k f f-is j h); most = count_most s }
+  stands = record { after = child_after (nodes_of s) x k f f_is j h; below = rw (← length_nodes s) (child_below (nodes_of s) x k f f_is j h); most = count_most s }
 
   pub next_fits : Fits w64 (j + 1)
   next_fits = omega (arith, stands)
@@ -88,18 +88,18 @@ module _ (s : List ℕ) (x k : ℕ) (f : Found) (f-is : f ≡ child_from (nodes_
 
 pub ruleset next_child = (next_fits, next_below, next_less, index_fits, index_same, index_next)
 
-module _ (o limit i at : ℕ) (t u l : List ℕ) (x : ℕ) (ns : List Node) (k : ℕ) (z : Filled) (inv : fill o limit i at t (child_dirents u l x (drop k ns)) ≡ z) (f : Found) (f-is : f ≡ child_from ns x k) where
+module _ (o limit i at : ℕ) (t u l : List ℕ) (x : ℕ) (ns : List Node) (k : ℕ) (z : Filled) (inv : fill o limit i at t (child_dirents u l x (drop k ns)) ≡ z) (f : Found) (f_is : f ≡ child_from ns x k) where
   pub children_end : f ≡ Missing → filled at false t ≡ z
   unfolding fill
-  children_end h = ap (fill o limit i at t) (sym (no_child ns x k f f-is h u l)) ∙ inv
+  children_end h = ap (fill o limit i at t) (sym (no_child ns x k f f_is h u l)) ∙ inv
 
-  module _ (j : ℕ) (h : f ≡ At j) (n : Node) (n-is : n ≡ node_at ns j) (b : Bool) (b-is : b ≡ is_white n) where
+  module _ (j : ℕ) (h : f ≡ At j) (n : Node) (n_is : n ≡ node_at ns j) (b : Bool) (b_is : b ≡ is_white n) where
     pub children_white : not b ≡ false → fill o limit i at t (child_dirents u l x (drop (j + 1) ns)) ≡ z
-    children_white e = ap (fill o limit i at t) (sym (white_child ns x k f f-is j h u l n n-is b b-is (not-false b e))) ∙ inv
+    children_white e = ap (fill o limit i at t) (sym (white_child ns x k f f_is j h u l n n_is b b_is (not-false b e))) ∙ inv
 
     module _ (e : not b ≡ true) (r : Put) (v : List ℕ) (p : r ≡ entry_answer o limit t at i (dirent_of u l (take n.length n.name) n)) (q : v ≡ entry_over o limit t at i (dirent_of u l (take n.length n.name) n)) where
       left : fill o limit i at t (dirent_of u l (node_name n) n ∷ child_dirents u l x (drop (j + 1) ns)) ≡ z
-      left = ap (fill o limit i at t) (sym (live_child ns x k f f-is j h u l n n-is b b-is (not-true b e))) ∙ inv
+      left = ap (fill o limit i at t) (sym (live_child ns x k f f_is j h u l n n_is b b_is (not-true b e))) ∙ inv
 
       pub children_next : (a : ℕ) → r ≡ Next a → fill o limit (i + 1) a v (child_dirents u l x (drop (j + 1) ns)) ≡ z
       children_next a g = fill_next o limit t at i (dirent_of u l (node_name n) n) r v p q (child_dirents u l x (drop (j + 1) ns)) a g ∙ left
@@ -107,4 +107,4 @@ module _ (o limit i at : ℕ) (t u l : List ℕ) (x : ℕ) (ns : List Node) (k :
       pub children_full : r ≡ Full → filled at true v ≡ z
       children_full g = fill_full o limit t at i (dirent_of u l (node_name n) n) r v p q (child_dirents u l x (drop (j + 1) ns)) g ∙ left
 
-pub ruleset children-walk = (children_end, children_white, children_next, children_full)
+pub ruleset children_walk = (children_end, children_white, children_next, children_full)

@@ -31,12 +31,12 @@ pub added_for_lem : (t s : List ℕ) (k : ℕ) (r : Record) (n : Node) (w : ℕ)
 added_for_lem t s k r n w p d v t' a b c e f g = g ∙ rw (f, e, c, b, a) refl
 
 -- ---- a node made in the upper layer: with a record like its own, and with that record put on its stack
-module _ (like : Record → Record) (put : Node → Pair → Node) (t l s : List ℕ) (k : ℕ) (n : Node) (n-is : n ≡ node_at (nodes_of s) k) where
+module _ (like : Record → Record) (put : Node → Pair → Node) (t l s : List ℕ) (k : ℕ) (n : Node) (n_is : n ≡ node_at (nodes_of s) k) where
   pub made_table : (q r : Record) (t' : List ℕ) → q ≡ top_record t l n → r ≡ like q → t' ≡ added_for k r (up t s) → t' ≡ added_for k (like (top_record t l (node_at (nodes_of s) k))) (up t s)
-  made_table q r t' a b e = e ∙ rw (b, a, n-is) refl
+  made_table q r t' a b e = e ∙ rw (b, a, n_is) refl
 
   pub made_state : (c : ℕ) (p : Pair) (m : Node) (s' : List ℕ) → c ≡ new_record t → p ≡ pair 0 c → m ≡ put n p → s' ≡ put_bytes s k m → s' ≡ put_bytes s k (put (node_at (nodes_of s) k) (pair 0 (new_record t)))
-  made_state c p m s' a b e g = g ∙ rw (e, b, a, n-is) refl
+  made_state c p m s' a b e g = g ∙ rw (e, b, a, n_is) refl
 
 -- ---- a path, `part` being the table or the state
 module _ (part : Up → List ℕ) (l : List ℕ) (d k : ℕ) (t s : List ℕ) where
@@ -44,18 +44,18 @@ module _ (part : Up → List ℕ) (l : List ℕ) (d k : ℕ) (t s : List ℕ) wh
   unfolding made_upper
   path_end h = rw h refl
 
-  module _ (n : Node) (n-is : n ≡ node_at (nodes_of s) k) (b : Bool) (b-is : b ≡ in_upper n) where
+  module _ (n : Node) (n_is : n ≡ node_at (nodes_of s) k) (b : Bool) (b_is : b ≡ in_upper n) where
     pub path_there : b ≡ true → part (up t s) ≡ part (made_upper d l k (up t s))
     unfolding made_upper
     path_there h = go d
       where
         go : (m : ℕ) → part (up t s) ≡ part (made_upper m l k (up t s))
         go zero = refl
-        go (suc m) = rw (← n-is, ← b-is, h) refl
+        go (suc m) = rw (← n_is, ← b_is, h) refl
 
     one_more : b ≡ false → (m : ℕ) → part (made_directory l k (made_upper m l (place_numbered s n.parent) (up t s))) ≡ part (made_upper (suc m) l k (up t s))
     unfolding made_upper
-    one_more h m = rw (← n-is, ← b-is, h) refl
+    one_more h m = rw (← n_is, ← b_is, h) refl
 
     pub path_made : b ≡ false → (d ≡ 0 → ⊥) → (w j : ℕ) → w ≡ n.parent → j ≡ place_numbered s w → (t₁ s₁ : List ℕ) → t₁ ≡ (made_upper (d - 1) l j (up t s)).table → s₁ ≡ (made_upper (d - 1) l j (up t s)).state
         → (z : List ℕ) → z ≡ part (made_directory l k (up t₁ s₁)) → z ≡ part (made_upper d l k (up t s))
@@ -65,19 +65,19 @@ module _ (part : Up → List ℕ) (l : List ℕ) (d k : ℕ) (t s : List ℕ) wh
         ∙ (one_more h (d - 1) ∙ ap (λ (m : ℕ). part (made_upper m l k (up t s))) i)
 
 -- ---- a node copied up
-module _ (part : Up → List ℕ) (l : List ℕ) (k : ℕ) (t s : List ℕ) (n : Node) (n-is : n ≡ node_at (nodes_of s) k) (b : Bool) (b-is : b ≡ in_upper n) where
+module _ (part : Up → List ℕ) (l : List ℕ) (k : ℕ) (t s : List ℕ) (n : Node) (n_is : n ≡ node_at (nodes_of s) k) (b : Bool) (b_is : b ≡ in_upper n) where
   pub copied_there : b ≡ true → part (up t s) ≡ part (copied_up l k (up t s))
   unfolding copied_up
-  copied_there h = rw (← n-is, ← b-is, h) refl
+  copied_there h = rw (← n_is, ← b_is, h) refl
 
-  module _ (h : b ≡ false) (e : Bool) (e-is : e ≡ is_directory_node t l n) (z : List ℕ) where
+  module _ (h : b ≡ false) (e : Bool) (e_is : e ≡ is_directory_node t l n) (z : List ℕ) where
     pub copied_directory : e ≡ true → z ≡ part (made_path l k (up t s)) → z ≡ part (copied_up l k (up t s))
     unfolding copied_up
-    copied_directory g q = q ∙ rw (← n-is, ← b-is, h, ← e-is, g) refl
+    copied_directory g q = q ∙ rw (← n_is, ← b_is, h, ← e_is, g) refl
 
     file_alone : e ≡ false → part (copied_file l k (made_path l (place_numbered s n.parent) (up t s))) ≡ part (copied_up l k (up t s))
     unfolding copied_up
-    file_alone g = rw (← n-is, ← b-is, h, ← e-is, g) refl
+    file_alone g = rw (← n_is, ← b_is, h, ← e_is, g) refl
 
     pub copied_file_lem : e ≡ false → (w j : ℕ) → w ≡ n.parent → j ≡ place_numbered s w → (t₁ s₁ : List ℕ) → t₁ ≡ (made_path l j (up t s)).table → s₁ ≡ (made_path l j (up t s)).state
         → z ≡ part (copied_file l k (up t₁ s₁)) → z ≡ part (copied_up l k (up t s))

@@ -48,11 +48,11 @@ module _ (u l s : List ℕ) (x : ℕ) where
     upper_kept : (r : Refusal) → z ≡ Refused r → u ≡ (copy_up_spec u l s x).upper
     upper_kept r h = left_refused (before ++ behind) z 0 answer u (copied_up l place (up u s)).table u r h refl
 
-  module _ (f : Answer) (f-is : f ≡ after_tests (copy_up_before u l s x) (Fine (place_numbered s x))) where
+  module _ (f : Answer) (f_is : f ≡ after_tests (copy_up_before u l s x) (Fine (place_numbered s x))) where
     -- refused: 22, 2, 30, 2
     module _ (r : Refusal) (h : f ≡ Refused r) where
       pub refused_answer : f ≡ (copy_up_spec u l s x).answer
-      refused_answer = stops before behind f (Fine 0) place f-is r h
+      refused_answer = stops before behind f (Fine 0) place f_is r h
 
       pub refused_state : s ≡ (copy_up_spec u l s x).state
       refused_state = state_kept f refused_answer r h
@@ -62,20 +62,20 @@ module _ (u l s : List ℕ) (x : ℕ) where
 
     module _ (k : ℕ) (h : f ≡ Fine k) where
       at_place : k ≡ place_numbered s x
-      at_place = fine_value before behind f (Fine 0) place f-is k h
+      at_place = fine_value before behind f (Fine 0) place f_is k h
 
       pub upper_whole : length u ≡ 8192
-      upper_whole = upper_there u l s x (fine_passed before (Fine place) k (sym f-is ∙ h))
+      upper_whole = upper_there u l s x (fine_passed before (Fine place) k (sym f_is ∙ h))
 
-      module _ (m : ℕ) (b : Bool) (m-is : m ≡ length (missing s k)) (b-is : b ≡ overfull u Missing m m) where
+      module _ (m : ℕ) (b : Bool) (m_is : m ≡ length (missing s k)) (b_is : b ≡ overfull u Missing m m) where
         over_is : b ≡ overfull u Missing (length (missing s place)) (length (missing s place))
-        over_is = b-is ∙ rw (m-is, at_place) refl
+        over_is = b_is ∙ rw (m_is, at_place) refl
 
         -- 28
         pub full_answer : b ≡ true → Refused Enospc ≡ (copy_up_spec u l s x).answer
         unfolding copy_up_tests
         full_answer t =
-            goes_on before behind f (Fine 0) place f-is k (Refused Enospc) h
+            goes_on before behind f (Fine 0) place f_is k (Refused Enospc) h
             (fails Enospc [] (Fine 0) b (overfull u Missing (length (missing s place)) (length (missing s place))) over_is t)
 
         pub full_state : b ≡ true → (v : List ℕ) → v ≡ s → v ≡ (copy_up_spec u l s x).state
@@ -88,7 +88,7 @@ module _ (u l s : List ℕ) (x : ℕ) where
           pub copied_answer : Fine 0 ≡ (copy_up_spec u l s x).answer
           unfolding copy_up_tests
           copied_answer =
-              goes_on before behind f (Fine 0) place f-is k (Fine 0) h
+              goes_on before behind f (Fine 0) place f_is k (Fine 0) h
               (passes Enospc [] (Fine 0) b (overfull u Missing (length (missing s place)) (length (missing s place))) over_is (Fine 0) t (stands (Fine 0)))
 
           pub copied_state : (v : List ℕ) → v ≡ (copied_up l k (up u s)).state → v ≡ (copy_up_spec u l s x).state

@@ -53,7 +53,7 @@ module _ (t t₁ t₂ t₃ : List ℕ) (a inode index kind : ℕ) (x : Name) (p 
 
 -- ---- whether it fits
 
-module _ (limit : ℕ) (t : List ℕ) (at index inode kind : ℕ) (x : Name) (e p : ℕ) (e-is : e ≡ least limit (length t)) (p-is : p ≡ padding (length x)) where
+module _ (limit : ℕ) (t : List ℕ) (at index inode kind : ℕ) (x : Name) (e p : ℕ) (e_is : e ≡ least limit (length t)) (p_is : p ≡ padding (length x)) where
   short : e < at + (24 + length x + padding (length x)) → leb (at + (24 + length x + padding (length x))) (least limit (length t)) ≡ false
   short h = lt-leb (at + (24 + length x + padding (length x))) (least limit (length t)) (omega arith)
 
@@ -94,4 +94,4 @@ module _ (limit : ℕ) (t : List ℕ) (at index inode kind : ℕ) (x : Name) (e 
     unfolding put_dirent dirent_size
     dirent_written u q = rw there q
 
-pub ruleset not-fitting = (full_at, full_name, full_rest, kept_at, kept_name, kept_rest)
+pub ruleset not_fitting = (full_at, full_name, full_rest, kept_at, kept_name, kept_rest)

@@ -81,7 +81,7 @@ module _ (u l s : List ℕ) (x o size : ℕ) (t : List ℕ) (f : Answer) (q : f 
         (left_behind u l s x (parent_tests u l s x) [] f q k h a g j d (loaded_state u l s x) s' i)
         (m ∙ sym (rw (went, fine_passed load (Fine k) j (sym loads ∙ d)) refl))
 
-pub ruleset list-walk = (list_refused, list_not_loaded, list_page)
+pub ruleset list_walk = (list_refused, list_not_loaded, list_page)
 
 module _ (u l s : List ℕ) (x o size : ℕ) (t : List ℕ) (b : Bool) (q : b ≡ lengths_test s u l) where
   pub list_lengths : not b ≡ true → listed (Refused Einval) s t ≡ list_spec u l s x o size t
@@ -96,4 +96,4 @@ module _ (u l s : List ℕ) (x o size : ℕ) (t : List ℕ) (b : Bool) (q : b �
   unfolding list_spec
   list_some h z a s' v e = rw (← q, not-false b h, ne_eqb size 0 z) e
 
-pub ruleset list-start = (list_lengths, list_nothing, list_some)
+pub ruleset list_start = (list_lengths, list_nothing, list_some)

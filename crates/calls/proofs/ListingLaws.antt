@@ -51,11 +51,11 @@ those_first {A} p d s (x ∷ xs) m h = go (p x) h (those_first p d (suc s) xs m)
         let l : t.0 < length xs = t.2 in
         (suc t.0, omega arith, omega arith, t.3)
 
-module _ (ns : List Node) (x k : ℕ) (f : Found) (f-is : f ≡ child_from ns x k) (j : ℕ) (h : f ≡ At j) where
+module _ (ns : List Node) (x k : ℕ) (f : Found) (f_is : f ≡ child_from ns x k) (j : ℕ) (h : f ≡ At j) where
   next_child : (k ≤ j) × (j < length ns) × (children_of (drop k ns) x ≡ node_at ns j ∷ children_of (drop (j + 1) ns) x)
   next_child =
       let t : (i : ℕ) × (j ≡ k + i) × (i < length (drop k ns)) × (those (has_parent x) (drop k ns) ≡ get_or (drop k ns) i no_node ∷ those (has_parent x) (drop (suc i) (drop k ns))) =
-      those_first (has_parent x) no_node k (drop k ns) j (sym f-is ∙ h) in
+      those_first (has_parent x) no_node k (drop k ns) j (sym f_is ∙ h) in
       let e : j ≡ k + t.0 = t.1 in
       let l : t.0 < length ns - k = rw (← length-drop k ns) t.2 in
       let a : get_or (drop k ns) t.0 no_node ≡ node_at ns j = get_or-drop k ns t.0 no_node ∙ ap (λ (i : ℕ). node_at ns i) (sym e) in
@@ -68,14 +68,14 @@ module _ (ns : List Node) (x k : ℕ) (f : Found) (f-is : f ≡ child_from ns x 
   pub child_below : j < length ns
   child_below = next_child.1
 
-  module _ (u l : List ℕ) (n : Node) (n-is : n ≡ node_at ns j) (b : Bool) (b-is : b ≡ is_white n) where
+  module _ (u l : List ℕ) (n : Node) (n_is : n ≡ node_at ns j) (b : Bool) (b_is : b ≡ is_white n) where
     pub white_child : b ≡ true → child_dirents u l x (drop k ns) ≡ child_dirents u l x (drop (j + 1) ns)
     unfolding child_dirents those is_live
-    white_child t = rw (next_child.2, ← n-is, ← b-is, t) refl
+    white_child t = rw (next_child.2, ← n_is, ← b_is, t) refl
 
     pub live_child : b ≡ false → child_dirents u l x (drop k ns) ≡ dirent_of u l (node_name n) n ∷ child_dirents u l x (drop (j + 1) ns)
     unfolding child_dirents those is_live
-    live_child t = rw (next_child.2, ← n-is, ← b-is, t) refl
+    live_child t = rw (next_child.2, ← n_is, ← b_is, t) refl
 
 pub no_child : (ns : List Node) (x k : ℕ) (f : Found) → f ≡ child_from ns x k → f ≡ Missing → (u l : List ℕ) → child_dirents u l x (drop k ns) ≡ []
 unfolding child_dirents those

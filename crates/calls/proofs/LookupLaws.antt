@@ -52,9 +52,9 @@ module _ (s : List ℕ) (p : ℕ) (x : Name) (y : Seat) (b : y ≡ seat_of (node
     unfolding name_tests passed is_found place_of counted_state
     live_counted m v t i j = j ∙ rw (← q, h, ← e, ← g, t, i) refl
 
-pub ruleset name-answers = (name_absent, name_white, name_live)
+pub ruleset name_answers = (name_absent, name_white, name_live)
 
-pub ruleset name-states = (absent_stays, white_stays, live_counted)
+pub ruleset name_states = (absent_stays, white_stays, live_counted)
 
 -- ---- the lookup, behind the load
 module _ (u l s : List ℕ) (p : ℕ) (x : Name) (f : Answer) (q : f ≡ after_tests (lookup_before u l s p x) (Fine (place_numbered s p))) (k : ℕ) (h : f ≡ Fine k)

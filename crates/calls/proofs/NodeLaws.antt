@@ -68,6 +68,6 @@ module _ (s : List ℕ) (x : ℕ) (out : List ℕ) (b : Bool) (t : b ≡ state_f
           let y : w ≡ over out 0 (part s (12 + 52 * k) 52) = e ∙ laid_in out 0 (part s (12 + 52 * k) 52) (omega arith) in
           y ∙ rw (← t, g, ← q, h, le-ltb (length out) 52 i) refl
 
-pub ruleset node-answers = (node_lengths, node_unknown, node_short, node_given)
+pub ruleset node_answers = (node_lengths, node_unknown, node_short, node_given)
 
-pub ruleset node-outs = (lengths_untouched, unknown_untouched, short_untouched, bytes_given)
+pub ruleset node_outs = (lengths_untouched, unknown_untouched, short_untouched, bytes_given)

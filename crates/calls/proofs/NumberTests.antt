@@ -28,33 +28,33 @@ module _ (r : Refusal) (ts : List Test) (a : Answer) (u : List ℕ) where
   upper_passes z h e = rw (eq-eqb (length u) 8192 h) e
 
 -- ---- "2 ENOENT node unknown or whiteout"
-module _ (s : List ℕ) (x : ℕ) (f : Found) (f-is : f ≡ find_number (nodes_of s) x) where
+module _ (s : List ℕ) (x : ℕ) (f : Found) (f_is : f ≡ find_number (nodes_of s) x) where
   pub known_place : (k : ℕ) → f ≡ At k → k ≡ place_numbered s x
   unfolding place_of
-  known_place k h = rw (← f-is, h) refl
+  known_place k h = rw (← f_is, h) refl
 
   module _ (r : Refusal) (ts : List Test) (a : Answer) where
     pub known_fails : f ≡ Missing → Refused r ≡ after_tests (test (unknown s x) r ∷ ts) a
     unfolding after_tests is_found
-    known_fails h = rw (← f-is, h) refl
+    known_fails h = rw (← f_is, h) refl
 
     module _ (k : ℕ) (h : f ≡ At k) where
       pub known_passes : (z : Answer) → z ≡ after_tests ts a → z ≡ after_tests (test (unknown s x) r ∷ ts) a
       unfolding after_tests is_found
-      known_passes z e = rw (← f-is, h) e
+      known_passes z e = rw (← f_is, h) e
 
-      module _ (n : Node) (n-is : n ≡ node_at (nodes_of s) k) (w : Bool) (w-is : w ≡ is_white n) where
+      module _ (n : Node) (n_is : n ≡ node_at (nodes_of s) k) (w : Bool) (w_is : w ≡ is_white n) where
         pub live_fails : w ≡ true → Refused r ≡ after_tests (test (is_white (numbered s x)) r ∷ ts) a
         unfolding after_tests place_of
-        live_fails g = rw (← f-is, h, ← n-is, ← w-is, g) refl
+        live_fails g = rw (← f_is, h, ← n_is, ← w_is, g) refl
 
         pub live_passes : (z : Answer) → w ≡ false → z ≡ after_tests ts a → z ≡ after_tests (test (is_white (numbered s x)) r ∷ ts) a
         unfolding after_tests place_of
-        live_passes z g e = rw (← f-is, h, ← n-is, ← w-is, g) e
+        live_passes z g e = rw (← f_is, h, ← n_is, ← w_is, g) e
 
 -- the place stands where no test is left
 pub place_stands : (s : List ℕ) (x : ℕ) (f : Found) → f ≡ find_number (nodes_of s) x → (k : ℕ) → f ≡ At k → Fine k ≡ after_tests [] (Fine (place_numbered s x))
 unfolding after_tests
-place_stands s x f f-is k h = ap Fine (known_place s x f f-is k h)
+place_stands s x f f_is k h = ap Fine (known_place s x f f_is k h)
 
-pub ruleset number-tests = (upper_fails, upper_passes, known_fails, known_passes, live_fails, live_passes, place_stands)
+pub ruleset number_tests = (upper_fails, upper_passes, known_fails, known_passes, live_fails, live_passes, place_stands)

@@ -41,17 +41,17 @@ pub up_is : (x : Up) (t s : List ℕ) → t ≡ x.table → s ≡ x.state → up
 up_is x t s a b = rw (a, b) refl
 
 -- ---- the record that a node has on top
-module _ (n : Node) (p : Pair) (p-is : p ≡ top_of n) where
+module _ (n : Node) (p : Pair) (p_is : p ≡ top_of n) where
   pub top_upper : eqb p.layer 0 ≡ in_upper n
   unfolding in_upper
-  top_upper = rw p-is refl
+  top_upper = rw p_is refl
 
   module _ (u l t : List ℕ) (w : ℕ) (e : t ≡ table_of u l w) (q : w ≡ p.layer) (r : Record) where
     pub top_none : (length t ≡ 8192 → ⊥) → r ≡ free_record → r ≡ top_record u l n
-    top_none h g = (g ∙ sym (record_none u l t p w e q h)) ∙ rw p-is refl
+    top_none h g = (g ∙ sym (record_none u l t p w e q h)) ∙ rw p_is refl
 
     pub top_there : (v : ℕ) → v ≡ p.number → r ≡ record_at (records_of t) v → r ≡ top_record u l n
-    top_there v k h = record_there u l t p w e q v r k h ∙ rw p-is refl
+    top_there v k h = record_there u l t p w e q v r k h ∙ rw p_is refl
 
 -- ---- a new record with its entry
 module _ (f : Found) where
@@ -75,9 +75,9 @@ module _ (t : List ℕ) (r : Record) (f : Found) (t₁ : List ℕ) (a : AddRecor
       go (At i) e = record_below t (At i) i e refl
       go Missing e = omega arith
 
-  module _ (c : ℕ) (c-is : c ≡ record_number f) where
+  module _ (c : ℕ) (c_is : c ≡ record_number f) where
     pub new_number_lem : c ≡ new_record t
-    new_number_lem = c-is ∙ ap record_number a.place
+    new_number_lem = c_is ∙ ap record_number a.place
 
     pub new_added : (d : ℕ) (x : Name) (e : Entry) → e ≡ entry_naming d x c → (g : Found) (t₂ : List ℕ) → AddEntry t₁ e g t₂ → t₂ ≡ add_new d x r t
     unfolding add_new

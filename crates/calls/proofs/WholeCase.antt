@@ -52,16 +52,16 @@ case_pages =
 
 -- "upper root with one regular file "k", record 2": the root, number 1, and its child
 module _ (u l s : List ℕ) (root k : Node) (nodes : nodes_of s ≡ root ∷ k ∷ [])
-    (root_number : root.number ≡ 1) (root-parent : root.parent ≡ 0) (k-parent : k.parent ≡ 1) (k-white : k.white ≡ 0) (k-name : node_name k ≡ 107 ∷ [])
-    (root-top : top_of root ≡ pair 0 1) (k-top : top_of k ≡ pair 0 2) (root-type : type_of u l (pair 0 1) ≡ 4) (k-type : type_of u l (pair 0 2) ≡ 8) where
+    (root_number : root.number ≡ 1) (root_parent : root.parent ≡ 0) (k_parent : k.parent ≡ 1) (k_white : k.white ≡ 0) (k_name : node_name k ≡ 107 ∷ [])
+    (root_top : top_of root ≡ pair 0 1) (k_top : top_of k ≡ pair 0 2) (root_type : type_of u l (pair 0 1) ≡ 4) (k_type : type_of u l (pair 0 2) ≡ 8) where
   case_root : numbered s 1 ≡ root
   unfolding place_of first_from is_number
   case_root = rw (nodes, root_number) refl
 
   case_children : child_dirents u l 1 (nodes_of s) ≡ dirent 2 8 (107 ∷ []) ∷ []
   unfolding child_dirents those has_parent is_live is_white dirent_of
-  case_children = rw (nodes, root-parent, k-parent, k-white, k-name, k-top, k-type) refl
+  case_children = rw (nodes, root_parent, k_parent, k_white, k_name, k_top, k_type) refl
 
   pub case_listing : listing_of u l s 1 ≡ case_entries
   unfolding listing_of dirent_of above
-  case_listing = rw (case_root, case_children, root-top, root-type) refl
+  case_listing = rw (case_root, case_children, root_top, root_type) refl

@@ -32,23 +32,23 @@ module _ (s : List ℕ) (x : ℕ) (n : Node) where
       d ∙ (ap (λ (y : ℕ). numbered s y) (g ∙ ap (λ (k : Node). k.parent) e) ∙ ap (λ (b : Bool). numbered s (cond b 1 (numbered s x).parent)) (sym (ne_eqb x 1 h)))
 
 -- ---- the fixed names, then the children
-module _ (o limit : ℕ) (t u l s : List ℕ) (x : ℕ) (n : Node) (n-is : n ≡ numbered s x) (r : Put) (v : List ℕ)
+module _ (o limit : ℕ) (t u l s : List ℕ) (x : ℕ) (n : Node) (n_is : n ≡ numbered s x) (r : Put) (v : List ℕ)
     (p : r ≡ entry_answer o limit t 0 0 (dirent_of u l (46 ∷ []) n)) (q : v ≡ entry_over o limit t 0 0 (dirent_of u l (46 ∷ []) n)) where
   abbrev rest : List Dirent
   rest = dirent_of u l (46 ∷ 46 ∷ []) (numbered s (above s x)) ∷ child_dirents u l x (nodes_of s)
 
   whole : fill o limit 0 0 t (dirent_of u l (46 ∷ []) n ∷ rest) ≡ fill o limit 0 0 t (listing_of u l s x)
   unfolding listing_of
-  whole = ap (λ (m : Node). fill o limit 0 0 t (dirent_of u l (46 ∷ []) m ∷ rest)) n-is
+  whole = ap (λ (m : Node). fill o limit 0 0 t (dirent_of u l (46 ∷ []) m ∷ rest)) n_is
 
   pub first_full : r ≡ Full → filled 0 true v ≡ fill o limit 0 0 t (listing_of u l s x)
   first_full h = fill_full o limit t 0 0 (dirent_of u l (46 ∷ []) n) r v p q rest h ∙ whole
 
-  module _ (a : ℕ) (h : r ≡ Next a) (m : Node) (m-is : m ≡ numbered s (above s x)) (r₂ : Put) (v₂ : List ℕ)
+  module _ (a : ℕ) (h : r ≡ Next a) (m : Node) (m_is : m ≡ numbered s (above s x)) (r₂ : Put) (v₂ : List ℕ)
       (p₂ : r₂ ≡ entry_answer o limit v a 1 (dirent_of u l (46 ∷ 46 ∷ []) m)) (q₂ : v₂ ≡ entry_over o limit v a 1 (dirent_of u l (46 ∷ 46 ∷ []) m)) where
     second : fill o limit 1 a v (dirent_of u l (46 ∷ 46 ∷ []) m ∷ child_dirents u l x (nodes_of s)) ≡ fill o limit 0 0 t (listing_of u l s x)
     second =
-        ap (λ (k : Node). fill o limit 1 a v (dirent_of u l (46 ∷ 46 ∷ []) k ∷ child_dirents u l x (nodes_of s))) m-is
+        ap (λ (k : Node). fill o limit 1 a v (dirent_of u l (46 ∷ 46 ∷ []) k ∷ child_dirents u l x (nodes_of s))) m_is
         ∙ (fill_next o limit t 0 0 (dirent_of u l (46 ∷ []) n) r v p q rest a h ∙ whole)
 
     pub second_full : r₂ ≡ Full → filled a true v₂ ≡ fill o limit 0 0 t (listing_of u l s x)
@@ -57,7 +57,7 @@ module _ (o limit : ℕ) (t u l s : List ℕ) (x : ℕ) (n : Node) (n-is : n ≡
     pub then_children : (b : ℕ) → r₂ ≡ Next b → (y : Page) (w : List ℕ) → ◌≡◌ {A = Filled} (record { page = y; buffer = w }) (fill o limit 2 b v₂ (child_dirents u l x (nodes_of s))) → ◌≡◌ {A = Filled} (record { page = y; buffer = w }) (fill o limit 0 0 t (listing_of u l s x))
     then_children b g y w e = e ∙ (fill_next o limit v a 1 (dirent_of u l (46 ∷ 46 ∷ []) m) r₂ v₂ p₂ q₂ (child_dirents u l x (nodes_of s)) b g ∙ second)
 
-pub ruleset whole-walk = (first_full, second_full, then_children)
+pub ruleset whole_walk = (first_full, second_full, then_children)
 
 pub page_written : (o limit : ℕ) (t u l s : List ℕ) (x : ℕ) (p : Page) (v : List ℕ) → ◌≡◌ {A = Filled} (record { page = p; buffer = v }) (fill o limit 0 0 t (listing_of u l s x)) → Paged limit o t (listing_of u l s x) p v
 page_written o limit t u l s x p v e =

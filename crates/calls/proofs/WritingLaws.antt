@@ -19,7 +19,7 @@ module _ (s : List ℕ) (f : Found) where
 
   pub live_as_node : (j : ℕ) (n : Node) (w : Bool) → f ≡ At j → n ≡ node_at (nodes_of s) j → w ≡ is_white n → not w ≡ is_live_name s f
   unfolding is_live_name
-  live_as_node j n w h n-is w-is = rw (w-is, n-is, h) refl
+  live_as_node j n w h n_is w_is = rw (w_is, n_is, h) refl
 
   pub place_had : (j : ℕ) → f ≡ At j → false ≡ no_place s f
   unfolding no_place is_found

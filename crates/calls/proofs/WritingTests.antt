@@ -46,7 +46,7 @@ module _ (r : Refusal) (ts : List Test) (a : Answer) where
     unfolding after_tests
     passes_ge z h e = rw (le-ltb m n h) e
 
-pub ruleset more-tests = (fails_no, passes_yes, fails_first, fails_second, passes_both, fails_lt, passes_ge)
+pub ruleset more_tests = (fails_no, passes_yes, fails_first, fails_second, passes_both, fails_lt, passes_ge)
 
 -- ---- a test in the midst of those that did not fail
 pub passed_at : (ts us : List Test) (t : Test) → passed (ts ++ (t ∷ us)) ≡ true → t.fails ≡ false

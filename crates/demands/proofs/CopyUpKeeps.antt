@@ -77,15 +77,15 @@ directory_same t w l n h = ap (λ (m : List ℕ). cond (eqb n.depth 0) false (is
 
 -- ---- a node copied up
 
-module _ (t l s : List ℕ) (v : Valid t) (sound : SoundLayers t l) (g : Good t l s) (upper-bytes : AllBytes t) (lower-bytes : AllBytes l) (k : ℕ) (b : k < count_of s)
-    (room-records : used_records (records_of t) + length (missing s k) ≤ 128) (room-entries : used_entries (entries_of t) + length (missing s k) ≤ 128)
+module _ (t l s : List ℕ) (v : Valid t) (sound : SoundLayers t l) (g : Good t l s) (upper_bytes : AllBytes t) (lower_bytes : AllBytes l) (k : ℕ) (b : k < count_of s)
+    (room_records : used_records (records_of t) + length (missing s k) ≤ 128) (room_entries : used_entries (entries_of t) + length (missing s k) ≤ 128)
   where
     directory_keeps : is_directory_node t l (node_at (nodes_of s) k) ≡ true → Keeps l (made_path l k (up t s))
     directory_keeps d =
         let w : Walked t l (node_at (nodes_of s) k) = directory_top t l (node_at (nodes_of s) k) d in
         let f : length (missing_from 16 s k) ≤ length (missing_from 17 s k) = missing_fewer s 16 k in
         let p : MadePath t l s k (length (missing_from 16 s k)) (made_upper 16 l k (up t s)) = made_path_lem t l s v sound g 16 k b w (near_directory t l s g sound k b w) (omega arith) (omega arith) in
-        record { good = p.good; sound = p.sound; bytes = p.bytes upper-bytes lower-bytes }
+        record { good = p.good; sound = p.sound; bytes = p.bytes upper_bytes lower_bytes }
 
     module _ (white : is_white (node_at (nodes_of s) k) ≡ false) (low : in_upper (node_at (nodes_of s) k) ≡ false) (file : is_directory_node t l (node_at (nodes_of s) k) ≡ false) where
       pub other : (node_at (nodes_of s) k).number ≢ 1
@@ -134,7 +134,7 @@ module _ (t l s : List ℕ) (v : Valid t) (sound : SoundLayers t l) (g : Good t 
       pub tail_now : FitsTail (top_record u.table l (node_at (nodes_of u.state) k))
       tail_now =
           subst (λ (n : Node). FitsTail (top_record u.table l n)) (sym same)
-          (subst (λ (m : List ℕ). FitsTail (record_at (records_of m) (top_of (node_at (nodes_of s) k)).number)) (lower_table t u.table l (top_of (node_at (nodes_of s) k)).layer top_lower) (top_fits t l upper-bytes lower-bytes (node_at (nodes_of s) k)))
+          (subst (λ (m : List ℕ). FitsTail (record_at (records_of m) (top_of (node_at (nodes_of s) k)).number)) (lower_table t u.table l (top_of (node_at (nodes_of s) k)).layer top_lower) (top_fits t l upper_bytes lower_bytes (node_at (nodes_of s) k)))
 
       pub free : (i : ℕ) × (free_record_place (records_of u.table) ≡ At i)
       free =
@@ -148,16 +148,16 @@ module _ (t l s : List ℕ) (v : Valid t) (sound : SoundLayers t l) (g : Good t 
 
       -- the copy's bytes
       now_bytes : AllBytes u.table
-      now_bytes = path.bytes upper-bytes lower-bytes
+      now_bytes = path.bytes upper_bytes lower_bytes
 
       file_bytes : AllBytes (copied_file l k (up u.table u.state)).table
       unfolding copied_file
       file_bytes =
           add_new_bytes u.table now_bytes (top_of (node_at (nodes_of u.state) (parent_place u.state k))).number
           (upper_byte u.table l path.valid (node_at (nodes_of u.state) (parent_place u.state k)) high_now (parent_walked u.table l u.state path.good k b_now other_now))
-          (node_name (node_at (nodes_of u.state) k)) (node_name_bytes u.table l u.state now_bytes lower-bytes path.good k b_now other_now) (file_like (top_record u.table l (node_at (nodes_of u.state) k)))
+          (node_name (node_at (nodes_of u.state) k)) (node_name_bytes u.table l u.state now_bytes lower_bytes path.good k b_now other_now) (file_like (top_record u.table l (node_at (nodes_of u.state) k)))
           (file_like_bytes (top_record u.table l (node_at (nodes_of u.state) k))
-          (kind_byte (table_of u.table l (top_of (node_at (nodes_of u.state) k)).layer) (bytes_table u.table l now_bytes lower-bytes (top_of (node_at (nodes_of u.state) k)).layer) (top_of (node_at (nodes_of u.state) k)).number))
+          (kind_byte (table_of u.table l (top_of (node_at (nodes_of u.state) k)).layer) (bytes_table u.table l now_bytes lower_bytes (top_of (node_at (nodes_of u.state) k)).layer) (top_of (node_at (nodes_of u.state) k)).number))
 
       pub file_keeps : Keeps l (copied_file l k (up u.table u.state))
       file_keeps =
@@ -175,7 +175,7 @@ module _ (t l s : List ℕ) (v : Valid t) (sound : SoundLayers t l) (g : Good t 
       where
         go : (a : Bool) → in_upper (node_at (nodes_of s) k) ≡ a → (d : Bool) → is_directory_node t l (node_at (nodes_of s) k) ≡ d
             → Keeps l (cond a (up t s) (cond d (made_path l k (up t s)) (copied_file l k (made_path l (parent_place s k) (up t s)))))
-        go true e d h = record { good = g; sound = sound; bytes = upper-bytes }
+        go true e d h = record { good = g; sound = sound; bytes = upper_bytes }
         go false e true h = directory_keeps h
         go false e false h = file_keeps white e h
 
@@ -198,7 +198,7 @@ first_passed t ts h = go t.fails refl h
     go true e h = no_true h
     go false e h = (e, h)
 
-module _ (u l s : List ℕ) (g : Good u l s) (sound : SoundLayers u l) (upper-bytes : AllBytes u) (lower-bytes : AllBytes l) (x : ℕ) where
+module _ (u l s : List ℕ) (g : Good u l s) (sound : SoundLayers u l) (upper_bytes : AllBytes u) (lower_bytes : AllBytes l) (x : ℕ) where
   abbrev k : ℕ
   k = place_numbered s x
 
@@ -214,7 +214,7 @@ module _ (u l s : List ℕ) (g : Good u l s) (sound : SoundLayers u l) (upper-by
       let e : (is_white (numbered s x) ≡ false) × (passed (test (overfull u Missing (length (missing s k)) (length (missing s k))) Enospc ∷ []) ≡ true) = first_passed _ _ d.1 in
       let f : (overfull u Missing (length (missing s k)) (length (missing s k)) ≡ false) × (passed [] ≡ true) = first_passed _ _ e.1 in
       let r : (used_records (records_of u) + length (missing s k) ≤ 128) × (used_entries (entries_of u) + length (missing s k) ≤ 128) = not_overfull_missing u (length (missing s k)) (length (missing s k)) f.0 in
-      copied_keeps u l s (upper_valid u l sound (eqb-true (length u) 8192 (not-false (has_upper u) d.0))) sound g upper-bytes lower-bytes k (found_inside s x (not-false (is_found (find_number (nodes_of s) x)) c.0)) r.0 r.1 e.0
+      copied_keeps u l s (upper_valid u l sound (eqb-true (length u) 8192 (not-false (has_upper u) d.0))) sound g upper_bytes lower_bytes k (found_inside s x (not-false (is_found (find_number (nodes_of s) x)) c.0)) r.0 r.1 e.0
 
   -- refused or not
   call_keeps : Keeps l (up (copy_up_spec u l s x).upper (copy_up_spec u l s x).state)
@@ -222,7 +222,7 @@ module _ (u l s : List ℕ) (g : Good u l s) (sound : SoundLayers u l) (upper-by
     where
       go : (b : Bool) → passed tests ≡ b → Keeps l (up (cond b (copied_up l k (up u s)).table u) (cond b (copied_up l k (up u s)).state s))
       go true e = passed_keeps e
-      go false e = record { good = g; sound = sound; bytes = upper-bytes }
+      go false e = record { good = g; sound = sound; bytes = upper_bytes }
 
   pub copy_up_keeps : Good (copy_up_spec u l s x).upper l (copy_up_spec u l s x).state × SoundLayers (copy_up_spec u l s x).upper l
   copy_up_keeps = (call_keeps.good, call_keeps.sound)

@@ -16,7 +16,7 @@ use Rattle.demands.specs.Sequences.{Creatable}
 
 -- of a kind that is no directory's, and whose device number is 0 but for devices
 module _ (k : Kind) (some : kind_number k ≢ 0) (no_directory : kind_number k ≢ 4) (permissions umask device content : ℕ) (only : kind_number k ≢ 2 → kind_number k ≢ 6 → device ≡ 0)
-    (device-fits : device < 18446744073709551616) (content-fits : content < 18446744073709551616)
+    (device_fits : device < 18446744073709551616) (content_fits : content < 18446744073709551616)
   where
     made_good : (i : ℕ) → 1 ≤ i → GoodRecord i (numbered i (made_record (kind_number k) permissions umask device content))
     unfolding made_record
@@ -38,7 +38,7 @@ module _ (k : Kind) (some : kind_number k ≢ 0) (no_directory : kind_number k �
     made_creatable =
         record {
           good = λ i a b. made_good i a;
-          tail = record { device_fit = device-fits; size_fit = omega arith; content_fit = content-fits };
+          tail = record { device_fit = device_fits; size_fit = omega arith; content_fit = content_fits };
           no_directory = no_directory;
         }
 

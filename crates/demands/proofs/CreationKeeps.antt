@@ -204,9 +204,9 @@ module _ (t l s : List ℕ) (g : Good t l s) (k : ℕ) (b : k < count_of s) (j :
 
 -- ---- in the directory at place `k`, for whose path there is room
 
-module _ (t l s : List ℕ) (v : Valid t) (sound : SoundLayers t l) (g : Good t l s) (upper-bytes : AllBytes t) (lower-bytes : AllBytes l) (k : ℕ) (b : k < count_of s) (w : Walked t l (node_at (nodes_of s) k))
+module _ (t l s : List ℕ) (v : Valid t) (sound : SoundLayers t l) (g : Good t l s) (upper_bytes : AllBytes t) (lower_bytes : AllBytes l) (k : ℕ) (b : k < count_of s) (w : Walked t l (node_at (nodes_of s) k))
     (x : Name) (short : length x ≤ 28) (name_bytes : AllBytes x) (r : Record) (c : Creatable r) (live : is_whiteout r ≡ false)
-    (room-records : used_records (records_of t) + suc (length (missing s k)) ≤ 128) (room-entries : used_entries (entries_of t) + suc (length (missing s k)) ≤ 128)
+    (room_records : used_records (records_of t) + suc (length (missing s k)) ≤ 128) (room_entries : used_entries (entries_of t) + suc (length (missing s k)) ≤ 128)
   where
     abbrev u : Up
     u = made_upper 16 l k (up t s)
@@ -252,7 +252,7 @@ module _ (t l s : List ℕ) (v : Valid t) (sound : SoundLayers t l) (g : Good t 
     new_bytes_lem : (z : Seat) → AllBytes (filled k z x r u).table
     unfolding filled
     new_bytes_lem z =
-        add_new_bytes u.table (path.bytes upper-bytes lower-bytes) (top_of (node_at (nodes_of u.state) k)).number (walked_byte u.table path.valid (top_of (node_at (nodes_of u.state) k)).number walked_now) x name_bytes r (creatable_bytes r c)
+        add_new_bytes u.table (path.bytes upper_bytes lower_bytes) (top_of (node_at (nodes_of u.state) k)).number (walked_byte u.table path.valid (top_of (node_at (nodes_of u.state) k)).number walked_now) x name_bytes r (creatable_bytes r c)
 
     seat_now : seat_of (nodes_of u.state) (node_at (nodes_of u.state) k).number x ≡ seat_of (nodes_of s) (node_at (nodes_of s) k).number x
     seat_now =
@@ -440,7 +440,7 @@ module _ (t l s : List ℕ) (v : Valid t) (sound : SoundLayers t l) (g : Good t 
         go (At e) q z = (e, q)
         go Missing q z = absurd (z refl)
 
-    module _ (upper-bytes : AllBytes t) (name_bytes : AllBytes x) (white : is_white (node_at (nodes_of s) j) ≡ true) (r : Record) (c : Creatable r) (live : is_whiteout r ≡ false) (in_place : InPlace)
+    module _ (upper_bytes : AllBytes t) (name_bytes : AllBytes x) (white : is_white (node_at (nodes_of s) j) ≡ true) (r : Record) (c : Creatable r) (live : is_whiteout r ≡ false) (in_place : InPlace)
         (e : ℕ) (at : search_of (entries_of t) (top_of (node_at (nodes_of s) k)).number x ≡ At e) (fits : overfull t (At e) (suc (length (missing s k))) (suc (length (missing s k))) ≡ false)
       where
         entry_used : Used (entries_of t) e
@@ -493,7 +493,7 @@ module _ (t l s : List ℕ) (v : Valid t) (sound : SoundLayers t l) (g : Good t 
         bytes_after : AllBytes (filled k (Held j) x r bare).table
         unfolding filled without_whiteout
         bytes_after =
-            add_new_bytes (dropped_entry t e) (dropped_bytes t upper-bytes e) (top_of (node_at (nodes_of bare.state) k)).number (subst (λ (m : Node). (top_of m).number < 256) (sym same_above) (walked_byte t v d upper_walked)) x name_bytes r (creatable_bytes r c)
+            add_new_bytes (dropped_entry t e) (dropped_bytes t upper_bytes e) (top_of (node_at (nodes_of bare.state) k)).number (subst (λ (m : Node). (top_of m).number < 256) (sym same_above) (walked_byte t v d upper_walked)) x name_bytes r (creatable_bytes r c)
 
         written : Good (filled k (Held j) x r bare).table l (filled k (Held j) x r bare).state × SoundLayers (filled k (Held j) x r bare).table l
         written = in_place t l s v g sound k b parent_upper upper_walked j bj x key white e at free_after.0 open_after.0 free_after.1 open_after.1 r good_after c.tail c.no_directory live
@@ -579,7 +579,7 @@ allowed t s k f e x r h =
     record { dead = a.0; live = b.0; short = ltb-false 28 (length x) c.0; place = d.0; room = o.0 }
 
 -- behind the load, in the loaded directory at place `k`
-module _ (t l s : List ℕ) (v : Valid t) (sound : SoundLayers t l) (g : Good t l s) (upper-bytes : AllBytes t) (lower-bytes : AllBytes l) (k : ℕ) (b : k < count_of s) (w : Walked t l (node_at (nodes_of s) k)) (loaded : is_loaded (node_at (nodes_of s) k) ≡ true)
+module _ (t l s : List ℕ) (v : Valid t) (sound : SoundLayers t l) (g : Good t l s) (upper_bytes : AllBytes t) (lower_bytes : AllBytes l) (k : ℕ) (b : k < count_of s) (w : Walked t l (node_at (nodes_of s) k)) (loaded : is_loaded (node_at (nodes_of s) k) ≡ true)
     (x : Name) (well : WellFormed x) (name_bytes : AllBytes x) (r : Record) (c : Creatable r) (in_place : InPlace)
   where
     abbrev Left : Seat → Type 0
@@ -589,7 +589,7 @@ module _ (t l s : List ℕ) (v : Valid t) (sound : SoundLayers t l) (g : Good t 
     unfolding holder whiteout_entry without_whiteout no_place is_found
     open_left q seat a =
         let m : (used_records (records_of t) + suc (length (missing s k)) ≤ 128) × (used_entries (entries_of t) + suc (length (missing s k)) ≤ 128) = not_overfull_missing t (suc (length (missing s k))) (suc (length (missing s k))) a.room in
-        open_keeps t l s v sound g upper-bytes lower-bytes k b w x a.short name_bytes r c a.live m.0 m.1 well loaded (not-false (suffices s 1) a.place) q seat
+        open_keeps t l s v sound g upper_bytes lower_bytes k b w x a.short name_bytes r c a.live m.0 m.1 well loaded (not-false (suffices s 1) a.place) q seat
 
     held_left : (j : ℕ) → seat_of (nodes_of s) (node_at (nodes_of s) k).number x ≡ Held j → Allowed t s k (holder (Held j)) (whiteout_entry t s k (holder (Held j)) x) x r → Left (Held j)
     unfolding holder whiteout_entry is_live_name
@@ -601,7 +601,7 @@ module _ (t l s : List ℕ) (v : Valid t) (sound : SoundLayers t l) (g : Good t 
         found : in_upper (node_at (nodes_of s) j) ≡ true → (f : Found) → search_of (entries_of t) (top_of (node_at (nodes_of s) k)).number x ≡ f → Allowed t s k (At j) f x r
             → Keeps l (filled k (Held j) x r (made_upper 16 l k (without_whiteout f (At j) (up t s))))
         found h (At e) q a =
-            in_place_keeps t l s v sound g k b w x j held.0 held.1 h upper-bytes name_bytes (not-false (is_white (node_at (nodes_of s) j)) a.dead) r c a.live in_place e q a.room
+            in_place_keeps t l s v sound g k b w x j held.0 held.1 h upper_bytes name_bytes (not-false (is_white (node_at (nodes_of s) j)) a.dead) r c a.live in_place e q a.room
         found h Missing q a =
             let y : (e : ℕ) × (search_of (entries_of t) (top_of (node_at (nodes_of s) k)).number x ≡ At e) = entry_there t l s v sound g k b w x j held.0 held.1 h in
             let o : Missing ≡ At y.0 = sym q ∙ y.1 in
@@ -613,13 +613,13 @@ module _ (t l s : List ℕ) (v : Valid t) (sound : SoundLayers t l) (g : Good t 
         go true h a = found h (search_of (entries_of t) (top_of (node_at (nodes_of s) k)).number x) refl a
         go false h a = unfold without_whiteout in
             let m : (used_records (records_of t) + suc (length (missing s k)) ≤ 128) × (used_entries (entries_of t) + suc (length (missing s k)) ≤ 128) = not_overfull_missing t (suc (length (missing s k))) (suc (length (missing s k))) a.room in
-            over_keeps t l s v sound g upper-bytes lower-bytes k b w x a.short name_bytes r c a.live m.0 m.1 j seat (not-false (is_white (node_at (nodes_of s) j)) a.dead) h
+            over_keeps t l s v sound g upper_bytes lower_bytes k b w x a.short name_bytes r c a.live m.0 m.1 j seat (not-false (is_white (node_at (nodes_of s) j)) a.dead) h
 
     seat_left : (z : Seat) → seat_of (nodes_of s) (node_at (nodes_of s) k).number x ≡ z → Allowed t s k (holder z) (whiteout_entry t s k (holder z) x) x r → Left z
     seat_left (Open q) = open_left q
     seat_left (Held j) = held_left j
 
-module _ (u l s : List ℕ) (g : Good u l s) (sound : SoundLayers u l) (upper-bytes : AllBytes u) (lower-bytes : AllBytes l) (bad : Bool) (p : ℕ) (x : Name) (name_bytes : AllBytes x) (r : Record) (c : Creatable r) (in_place : InPlace) where
+module _ (u l s : List ℕ) (g : Good u l s) (sound : SoundLayers u l) (upper_bytes : AllBytes u) (lower_bytes : AllBytes l) (bad : Bool) (p : ℕ) (x : Name) (name_bytes : AllBytes x) (r : Record) (c : Creatable r) (in_place : InPlace) where
   abbrev after : List ℕ
   after = loaded_state u l s p
 
@@ -644,7 +644,7 @@ module _ (u l s : List ℕ) (g : Good u l s) (sound : SoundLayers u l) (upper-by
       let node : node_at (nodes_of after) (place_numbered after p) ≡ with_loaded (node_at (nodes_of s) (place_numbered s p)) 1 = y.node_is ∙ mark in
       let walked : Walked u l (node_at (nodes_of after) (place_numbered after p)) =
       subst (Walked u l) (sym node) (loaded_walked u l (node_at (nodes_of s) (place_numbered s p)) (directory_top u l (node_at (nodes_of s) (place_numbered s p)) (not-false (is_directory_node u l (node_at (nodes_of s) (place_numbered s p))) j.0))) in
-      seat_left u l after (upper_valid u l sound (eqb-true (length u) 8192 (not-false (has_upper u) f.0))) sound after_good upper-bytes lower-bytes (place_numbered after p) y.inside walked (ap is_loaded node ∙ marked_is (node_at (nodes_of s) (place_numbered s p)))
+      seat_left u l after (upper_valid u l sound (eqb-true (length u) 8192 (not-false (has_upper u) f.0))) sound after_good upper_bytes lower_bytes (place_numbered after p) y.inside walked (ap is_loaded node ∙ marked_is (node_at (nodes_of s) (place_numbered s p)))
       x ((well_formed_exactly x).sound (ap not (either_false (malformed_name x) bad d.0))) name_bytes r c in_place
       (seat_named after p x) (ap (λ (z : ℕ). seat_of (nodes_of after) z x) y.number_is) (allowed u after (place_numbered after p) (name_in after p x) (whiteout_in u after p x) x r o.1)
 
@@ -655,8 +655,8 @@ module _ (u l s : List ℕ) (g : Good u l s) (sound : SoundLayers u l) (upper-by
       go : (a : Bool) → passed (creation_before u l s bad p x) ≡ a → (b : Bool) → passed (load_tests u l s (place_numbered s p) ++ creation_behind u after p x r) ≡ b
           → Keeps l (up (cond a (cond b (created u l after p x r).table u) u) (cond a (cond b (created u l after p x r).state after) s))
       go true h true q = accepted_keeps h q
-      go true h false q = record { good = after_good; sound = sound; bytes = upper-bytes }
-      go false h b q = record { good = g; sound = sound; bytes = upper-bytes }
+      go true h false q = record { good = after_good; sound = sound; bytes = upper_bytes }
+      go false h b q = record { good = g; sound = sound; bytes = upper_bytes }
 
   pub creation_keeps : Good (creation_spec u l s bad p x r).upper l (creation_spec u l s bad p x r).state × SoundLayers (creation_spec u l s bad p x r).upper l
   creation_keeps = (call_keeps.good, call_keeps.sound)

@@ -177,13 +177,13 @@ module _ (t : List ℕ) (v : Valid t) (d : ℕ) (x : Name) (e : ℕ) (at : searc
     -- ---- and with the record `r` under that name
 
     module _ (walked : is_walked t d ≡ true) (short : length x ≤ 28) (i m : ℕ) (hr : free_record_place (records_of (dropped_entry t e)) ≡ At i) (he : free_entry_place (entries_of (dropped_entry t e)) ≡ At m)
-        (r : Record) (good : GoodRecord i (numbered i r)) (tail : FitsTail r) (no-directory-r : r.kind ≢ 4) (no_whiteout : is_whiteout r ≡ false)
+        (r : Record) (good : GoodRecord i (numbered i r)) (tail : FitsTail r) (no_directory_r : r.kind ≢ 4) (no_whiteout : is_whiteout r ≡ false)
       where
         abbrev w : List ℕ
         w = added_entry (added_record (dropped_entry t e) r) (entry_naming d x i)
 
         refillable : Makeable u d x r i
-        refillable = record { walked = drop_walked walked; unseen = drop_unseen; well_formed = entry_well_formed; short = short; good = good; tail = tail; no_directory = no-directory-r; no_whiteout = no_whiteout }
+        refillable = record { walked = drop_walked walked; unseen = drop_unseen; well_formed = entry_well_formed; short = short; good = good; tail = tail; no_directory = no_directory_r; no_whiteout = no_whiteout }
 
         refilled_valid : Valid w
         refilled_valid = made_valid u drop_valid d x r i refillable m hr he
@@ -198,7 +198,7 @@ module _ (t : List ℕ) (v : Valid t) (d : ℕ) (x : Name) (e : ℕ) (at : searc
         refilled_sound l sound = sound_changed t w l sound refilled_valid
 
         refilled_file : is_walked w i ≡ false
-        refilled_file = directory_walked w 0 i refilled_valid.size ∙ (ap is_directory (made_here u drop_valid d x r i refillable m hr he) ∙ ne_eqb r.kind 4 no-directory-r)
+        refilled_file = directory_walked w 0 i refilled_valid.size ∙ (ap is_directory (made_here u drop_valid d x r i refillable m hr he) ∙ ne_eqb r.kind 4 no_directory_r)
 
         module _ (l : List ℕ) where
           refilled_stack : (ps : List Pair) → stack_of w l (pair 0 d ∷ ps) x ≡ pair 0 i ∷ []
@@ -428,7 +428,7 @@ module _ (t l s : List ℕ) (v : Valid t) (g : Good t l s) (k : ℕ) (bk : k < c
       node_top = ap (top_walked t l) node_stack ∙ (ap (λ (y : List ℕ). is_walked y old) in_upper_lem ∙ (directory_walked t 0 old v.size ∙ ne_eqb (record_at (records_of t) old).kind 4 no_directory))
 
       module _ (i m : ℕ) (hr : free_record_place (records_of (dropped_entry t e)) ≡ At i) (he : free_entry_place (entries_of (dropped_entry t e)) ≡ At m)
-          (r : Record) (good : GoodRecord i (numbered i r)) (tail : FitsTail r) (no-directory-r : r.kind ≢ 4) (no_whiteout : is_whiteout r ≡ false)
+          (r : Record) (good : GoodRecord i (numbered i r)) (tail : FitsTail r) (no_directory_r : r.kind ≢ 4) (no_whiteout : is_whiteout r ≡ false)
         where
           abbrev new : List ℕ
           new = added_entry (added_record (dropped_entry t e) r) (entry_naming d x i)
@@ -437,16 +437,16 @@ module _ (t l s : List ℕ) (v : Valid t) (g : Good t l s) (k : ℕ) (bk : k < c
           a = with_white (alone (node_at (nodes_of s) j) (pair 0 i)) 0
 
           w_valid : Valid new
-          w_valid = refilled_valid t v d x e at no_directory walked short i m hr he r good tail no-directory-r no_whiteout
+          w_valid = refilled_valid t v d x e at no_directory walked short i m hr he r good tail no_directory_r no_whiteout
 
           stack_w : stack_of new l (stack_list (f p)) x ≡ pair 0 i ∷ []
-          stack_w = ap (λ (ps : List Pair). stack_of new l ps x) above_stack.1 ∙ refilled_stack t v d x e at no_directory walked short i m hr he r good tail no-directory-r no_whiteout l above_stack.0
+          stack_w = ap (λ (ps : List Pair). stack_of new l ps x) above_stack.1 ∙ refilled_stack t v d x e at no_directory walked short i m hr he r good tail no_directory_r no_whiteout l above_stack.0
 
           mark_w : whiteout_of new l (stack_list (f p)) x ≡ false
-          mark_w = ap (λ (ps : List Pair). whiteout_of new l ps x) above_stack.1 ∙ refilled_mark t v d x e at no_directory walked short i m hr he r good tail no-directory-r no_whiteout l above_stack.0
+          mark_w = ap (λ (ps : List Pair). whiteout_of new l ps x) above_stack.1 ∙ refilled_mark t v d x e at no_directory walked short i m hr he r good tail no_directory_r no_whiteout l above_stack.0
 
           top_w : top_walked new l (pair 0 i ∷ []) ≡ false
-          top_w = refilled_top t v d x e at no_directory walked short i m hr he r good tail no-directory-r no_whiteout l
+          top_w = refilled_top t v d x e at no_directory walked short i m hr he r good tail no_directory_r no_whiteout l
 
           below_w : (y : Name) → stack_of new l (stack_list a) y ≡ stack_of t l (stack_list (f n.number)) y
           below_w y = ap (λ (ps : List Pair). stack_of new l ps y) (given_stack n (pair 0 i)) ∙ (stack_none new l (pair 0 i ∷ []) y top_w ∙ sym (stack_none t l (stack_list (f n.number)) y node_top))
@@ -463,8 +463,8 @@ module _ (t l s : List ℕ) (v : Valid t) (g : Good t l s) (k : ℕ) (bk : k < c
 
           step : Step t new l f n.number a
           step =
-              change_step t l s g v new w_valid.size d x (refilled_changed t v d x e at no_directory walked short i m hr he r good tail no-directory-r no_whiteout)
-              (refilled_root t v d x e at no_directory walked short i m hr he r good tail no-directory-r no_whiteout) p above_there walked (subst (In (pair 0 d)) (sym above_stack.1) (here refl))
+              change_step t l s g v new w_valid.size d x (refilled_changed t v d x e at no_directory walked short i m hr he r good tail no_directory_r no_whiteout)
+              (refilled_root t v d x e at no_directory walked short i m hr he r good tail no_directory_r no_whiteout) p above_there walked (subst (In (pair 0 d)) (sym above_stack.1) (here refl))
               n.number node_there key_by a (given_number n (pair 0 i)) (given_key n (pair 0 i) ∙ key) (λ h. ap is_loaded by_place ∙ (sym (given_loaded n (pair 0 i)) ∙ h))
               below_w below_mark_w (given_stack n (pair 0 i) ∙ sym stack_w) some_w white_w
 
@@ -490,7 +490,7 @@ module _ (t l s : List ℕ) (v : Valid t) (g : Good t l s) (k : ℕ) (bk : k < c
 
           -- and so does every layer's
           pub replaced_sound : SoundLayers t l → SoundLayers (filled k (Held j) x r (without_whiteout (At e) (At j) (up t s))).table l
-          replaced_sound sound = subst (λ (y : List ℕ). SoundLayers y l) (sym table_is) (refilled_sound t v d x e at no_directory walked short i m hr he r good tail no-directory-r no_whiteout l sound)
+          replaced_sound sound = subst (λ (y : List ℕ). SoundLayers y l) (sym table_is) (refilled_sound t v d x e at no_directory walked short i m hr he r good tail no_directory_r no_whiteout l sound)
 
           -- what holds between calls holds of the table and the state
           pub replaced_good : Good (filled k (Held j) x r (without_whiteout (At e) (At j) (up t s))).table l (filled k (Held j) x r (without_whiteout (At e) (At j) (up t s))).state

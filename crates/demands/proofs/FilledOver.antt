@@ -170,7 +170,7 @@ module _ (t l s : List ℕ) (v : Valid t) (g : Good t l s) (sound : SoundLayers 
 
     -- ---- the upper table becomes `w`, in which the name has the record `c`, a file's
 
-    module _ (w : List ℕ) (valid : Valid w) (change : ChangedAt t w (top_of (node_at (nodes_of s) k)).number x) (root-stays : record_at (records_of t) 1 ≡ record_at (records_of w) 1) (c : ℕ) (file : is_walked w c ≡ false)
+    module _ (w : List ℕ) (valid : Valid w) (change : ChangedAt t w (top_of (node_at (nodes_of s) k)).number x) (root_stays : record_at (records_of t) 1 ≡ record_at (records_of w) 1) (c : ℕ) (file : is_walked w c ≡ false)
         (stack : (ps : List Pair) → stack_of w l (pair 0 (top_of (node_at (nodes_of s) k)).number ∷ ps) x ≡ pair 0 c ∷ []) (mark : (ps : List Pair) → whiteout_of w l (pair 0 (top_of (node_at (nodes_of s) k)).number ∷ ps) x ≡ false)
       where
         abbrev a : Node
@@ -204,7 +204,7 @@ module _ (t l s : List ℕ) (v : Valid t) (g : Good t l s) (sound : SoundLayers 
 
         given_step : Step t w l f n.number a
         given_step =
-            change_step t l s g v w valid.size d x change root-stays p above_there walked (subst (In (pair 0 d)) (sym held.1) (here refl))
+            change_step t l s g v w valid.size d x change root_stays p above_there walked (subst (In (pair 0 d)) (sym held.1) (here refl))
             n.number node_there (ap key_of by_place ∙ key) a (given_number n (pair 0 c)) (given_key n (pair 0 c) ∙ key) (λ h. ap is_loaded by_place ∙ (sym (given_loaded n (pair 0 c)) ∙ h))
             given_below given_below_mark given_holds given_some given_live
 
@@ -252,7 +252,7 @@ module _ (t l s : List ℕ) (v : Valid t) (g : Good t l s) (sound : SoundLayers 
 
     -- ---- a link of the node at place `h`, which stands on an upper record, and is no directory and not marked white
 
-    module _ (h : ℕ) (bh : h < count_of s) (upper-h : in_upper (node_at (nodes_of s) h) ≡ true) (no_directory : is_directory_node t l (node_at (nodes_of s) h) ≡ false) (i : ℕ) (free : free_entry_place (entries_of t) ≡ At i) where
+    module _ (h : ℕ) (bh : h < count_of s) (upper_h : in_upper (node_at (nodes_of s) h) ≡ true) (no_directory : is_directory_node t l (node_at (nodes_of s) h) ≡ false) (i : ℕ) (free : free_entry_place (entries_of t) ≡ At i) where
       abbrev rec : ℕ
       rec = (top_of (node_at (nodes_of s) h)).number
 
@@ -260,10 +260,10 @@ module _ (t l s : List ℕ) (v : Valid t) (g : Good t l s) (sound : SoundLayers 
       link = added_entry t (entry_naming (top_of (node_at (nodes_of s) k)).number x (top_of (node_at (nodes_of s) h)).number)
 
       rec_there : Present (records_of t) rec
-      rec_there = source_there t l s v g h bh upper-h no_directory
+      rec_there = source_there t l s v g h bh upper_h no_directory
 
       rec_file : is_directory (record_at (records_of t) rec) ≡ false
-      rec_file = source_file t l s v g h bh upper-h no_directory
+      rec_file = source_file t l s v g h bh upper_h no_directory
 
       link_is : (linked h k (Held j) x (up t s)).table ≡ link
       unfolding linked
@@ -285,7 +285,7 @@ module _ (t l s : List ℕ) (v : Valid t) (g : Good t l s) (sound : SoundLayers 
 
       module _ (live : is_white (node_at (nodes_of s) h) ≡ false) where
         rec_live : is_whiteout (record_at (records_of t) rec) ≡ false
-        rec_live = source_live t l s v g h bh upper-h no_directory live
+        rec_live = source_live t l s v g h bh upper_h no_directory live
 
         state_link : (linked h k (Held j) x (up t s)).state ≡ given_record s j rec
         unfolding linked named_state

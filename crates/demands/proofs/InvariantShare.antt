@@ -258,7 +258,7 @@ module _ (u l : List ℕ) (v : Valid u) (f : ℕ → Node) (c : Coherent u l f) 
 
   -- ---- the upper layer changes at the name `x` of its directory `d`, which the node `p` holds
 
-  module _ (w : List ℕ) (lw : length w ≡ 8192) (d : ℕ) (x : Name) (change : ChangedAt u w d x) (root-stays : record_at (records_of u) 1 ≡ record_at (records_of w) 1) (p : ℕ) (rp : Resident f p) (walked : is_walked u d ≡ true) (ind : In (pair 0 d) (stack_list (f p))) where
+  module _ (w : List ℕ) (lw : length w ≡ 8192) (d : ℕ) (x : Name) (change : ChangedAt u w d x) (root_stays : record_at (records_of u) 1 ≡ record_at (records_of w) 1) (p : ℕ) (rp : Resident f p) (walked : is_walked u d ≡ true) (ind : In (pair 0 d) (stack_list (f p))) where
     -- a node other than that name's keeps its records
     records_stay : (q : ℕ) → Resident f q → key_of (f q) ≢ p ∷ x → (n : ℕ) → In (pair 0 n) (stack_list (f q)) → record_at (records_of u) n ≡ record_at (records_of w) n
     records_stay q rq away n i = go (ℕ_discrete q 1)
@@ -266,7 +266,7 @@ module _ (u l : List ℕ) (v : Valid u) (f : ℕ → Node) (c : Coherent u l f) 
         go : Dec (q ≡ 1) → record_at (records_of u) n ≡ record_at (records_of w) n
         go (yes e) =
             let o : n ≡ 1 = root_one u l (subst (In (pair 0 n)) c.root_stack (subst (λ (z : ℕ). In (pair 0 n) (stack_list (f z))) e i)) in
-            rw o root-stays
+            rw o root_stays
         go (no e) =
             let t : Over q n = over q n (rq, e) i in
             let s : record_at (records_of w) (named (entries_of u) t.e (node_name (f q))) ≡ record_at (records_of u) (named (entries_of u) t.e (node_name (f q))) =

@@ -39,15 +39,15 @@ module _ (u l s : List ℕ) (g : Good u l s) (v : Valid u) where
   child_not_root p x k r e q = r.0 (let a : p ∷ x ≡ 0 ∷ [] = sym e ∙ (ap (λ (i : ℕ). key_of (f i)) q ∙ g.nodes.coherent.root_key) in cc)
 
   -- the upper layer becomes `w`, changed at the name `x` of its directory `d`, which the node `p` holds
-  module _ (w : List ℕ) (lw : length w ≡ 8192) (d : ℕ) (x : Name) (change : ChangedAt u w d x) (root-stays : record_at (records_of u) 1 ≡ record_at (records_of w) 1) (p : ℕ) (rp : Resident f p) (walked : is_walked u d ≡ true) (ind : In (pair 0 d) (stack_list (f p))) where
+  module _ (w : List ℕ) (lw : length w ≡ 8192) (d : ℕ) (x : Name) (change : ChangedAt u w d x) (root_stays : record_at (records_of u) 1 ≡ record_at (records_of w) 1) (p : ℕ) (rp : Resident f p) (walked : is_walked u d ≡ true) (ind : In (pair 0 d) (stack_list (f p))) where
     other_stack : (q : ℕ) → Resident f q → key_of (f q) ≢ p ∷ x → (y : Name) → (q ≡ p → y ≡ x → ⊥) → stack_of w l (stack_list (f q)) y ≡ stack_of u l (stack_list (f q)) y
-    other_stack = stack_stays u l v f g.nodes.coherent one_key w lw d x change root-stays p rp walked ind
+    other_stack = stack_stays u l v f g.nodes.coherent one_key w lw d x change root_stays p rp walked ind
 
     other_mark : (q : ℕ) → Resident f q → key_of (f q) ≢ p ∷ x → (y : Name) → (q ≡ p → y ≡ x → ⊥) → whiteout_of w l (stack_list (f q)) y ≡ whiteout_of u l (stack_list (f q)) y
-    other_mark = mark_stays u l v f g.nodes.coherent one_key w lw d x change root-stays p rp walked ind
+    other_mark = mark_stays u l v f g.nodes.coherent one_key w lw d x change root_stays p rp walked ind
 
     -- the name has a node, which becomes `a`, with the new stack and every name below it as before
-    module _ (k : ℕ) (rk : Resident f k) (key : key_of (f k) ≡ p ∷ x) (a : Node) (number : a.number ≡ k) (key-a : key_of a ≡ p ∷ x) (mark : is_loaded a ≡ true → is_loaded (f k) ≡ true)
+    module _ (k : ℕ) (rk : Resident f k) (key : key_of (f k) ≡ p ∷ x) (a : Node) (number : a.number ≡ k) (key_a : key_of a ≡ p ∷ x) (mark : is_loaded a ≡ true → is_loaded (f k) ≡ true)
         (below : (y : Name) → stack_of w l (stack_list a) y ≡ stack_of u l (stack_list (f k)) y) (below_mark : (y : Name) → whiteout_of w l (stack_list a) y ≡ whiteout_of u l (stack_list (f k)) y)
         (stack : stack_list a ≡ stack_of w l (stack_list (f p)) x) (some : stack_list a ≢ []) (white : a.white ≡ one (whiteout_of w l (stack_list (f p)) x))
       where
@@ -66,7 +66,7 @@ module _ (u l s : List ℕ) (g : Good u l s) (v : Valid u) where
               below_stacks = below;
               below_marks = below_mark;
               number_same = number;
-              key_same = key-a ∙ sym key;
+              key_same = key_a ∙ sym key;
               mark_same = mark;
               stack_new = stack ∙ ap₂ (λ (i : ℕ) (n : Name). stack_of w l (stack_list (f i)) n) (sym parent_k) (sym name_k);
               stack_some = some;

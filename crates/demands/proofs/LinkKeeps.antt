@@ -100,8 +100,8 @@ file_top t l n some file w =
     let deep : n.depth ≢ 0 = λ z. some (ap (λ (m : ℕ). take m n.stack) z) in
     no_true (sym (sym (rw (ne_eqb n.depth 0 deep) refl) ∙ file) ∙ w)
 
-module _ (t l s : List ℕ) (v : Valid t) (sound : SoundLayers t l) (g : Good t l s) (upper-bytes : AllBytes t) (lower-bytes : AllBytes l) (j : ℕ) (b : j < count_of s)
-    (room-records : used_records (records_of t) + length (missing s j) ≤ 128) (room-entries : used_entries (entries_of t) + length (missing s j) ≤ 128)
+module _ (t l s : List ℕ) (v : Valid t) (sound : SoundLayers t l) (g : Good t l s) (upper_bytes : AllBytes t) (lower_bytes : AllBytes l) (j : ℕ) (b : j < count_of s)
+    (room_records : used_records (records_of t) + length (missing s j) ≤ 128) (room_entries : used_entries (entries_of t) + length (missing s j) ≤ 128)
     (white : is_white (node_at (nodes_of s) j) ≡ false) (file : is_directory_node t l (node_at (nodes_of s) j) ≡ false)
   where
     module _ (low : in_upper (node_at (nodes_of s) j) ≡ false) where
@@ -112,40 +112,40 @@ module _ (t l s : List ℕ) (v : Valid t) (sound : SoundLayers t l) (g : Good t 
       after = copied_file l j (up m.table m.state)
 
       p : MadePath t l s (parent_place s j) (length (missing_from 16 s (parent_place s j))) m
-      p = path t l s v sound g upper-bytes lower-bytes j b room-records room-entries white low file
+      p = path t l s v sound g upper_bytes lower_bytes j b room_records room_entries white low file
 
       was : node_at (nodes_of m.state) j ≡ node_at (nodes_of s) j
-      was = same t l s v sound g upper-bytes lower-bytes j b room-records room-entries white low file
+      was = same t l s v sound g upper_bytes lower_bytes j b room_records room_entries white low file
 
       inside : j < count_of m.state
-      inside = b_now t l s v sound g upper-bytes lower-bytes j b room-records room-entries white low file
+      inside = b_now t l s v sound g upper_bytes lower_bytes j b room_records room_entries white low file
 
       not_root : (node_at (nodes_of m.state) j).number ≢ 1
-      not_root = other_now t l s v sound g upper-bytes lower-bytes j b room-records room-entries white low file
+      not_root = other_now t l s v sound g upper_bytes lower_bytes j b room_records room_entries white low file
 
       white_m : is_white (node_at (nodes_of m.state) j) ≡ false
-      white_m = white_now t l s v sound g upper-bytes lower-bytes j b room-records room-entries white low file
+      white_m = white_now t l s v sound g upper_bytes lower_bytes j b room_records room_entries white low file
 
       file_m : is_directory_node m.table l (node_at (nodes_of m.state) j) ≡ false
-      file_m = file_now t l s v sound g upper-bytes lower-bytes j b room-records room-entries white low file
+      file_m = file_now t l s v sound g upper_bytes lower_bytes j b room_records room_entries white low file
 
       low_m : in_upper (node_at (nodes_of m.state) j) ≡ false
-      low_m = low_now t l s v sound g upper-bytes lower-bytes j b room-records room-entries white low file
+      low_m = low_now t l s v sound g upper_bytes lower_bytes j b room_records room_entries white low file
 
       high_m : in_upper (node_at (nodes_of m.state) (parent_place m.state j)) ≡ true
-      high_m = high_now t l s v sound g upper-bytes lower-bytes j b room-records room-entries white low file
+      high_m = high_now t l s v sound g upper_bytes lower_bytes j b room_records room_entries white low file
 
       keeps : Keeps l after
-      keeps = file_keeps t l s v sound g upper-bytes lower-bytes j b room-records room-entries white low file
+      keeps = file_keeps t l s v sound g upper_bytes lower_bytes j b room_records room_entries white low file
 
       fr : (i : ℕ) × (free_record_place (records_of m.table) ≡ At i)
-      fr = free t l s v sound g upper-bytes lower-bytes j b room-records room-entries white low file
+      fr = free t l s v sound g upper_bytes lower_bytes j b room_records room_entries white low file
 
       fe : (i : ℕ) × (free_entry_place (entries_of m.table) ≡ At i)
-      fe = room t l s v sound g upper-bytes lower-bytes j b room-records room-entries white low file
+      fe = room t l s v sound g upper_bytes lower_bytes j b room_records room_entries white low file
 
       tl : FitsTail (top_record m.table l (node_at (nodes_of m.state) j))
-      tl = tail_now t l s v sound g upper-bytes lower-bytes j b room-records room-entries white low file
+      tl = tail_now t l s v sound g upper_bytes lower_bytes j b room_records room_entries white low file
 
       valid_u : Valid after.table
       valid_u = copied_valid m.table l m.state p.valid p.good j inside not_root white_m file_m low_m high_m p.sound tl fr.0 fe.0 fr.1 fe.1
@@ -194,7 +194,7 @@ module _ (t l s : List ℕ) (v : Valid t) (sound : SoundLayers t l) (g : Good t 
         where
           go : Dec (i ≡ j) → Walked after.table l (node_at (nodes_of after.state) i)
           go (yes e) =
-              absurd (file_top t l (node_at (nodes_of s) j) (node_some t l s v g j b (other t l s v sound g upper-bytes lower-bytes j b room-records room-entries white low file)) file
+              absurd (file_top t l (node_at (nodes_of s) j) (node_some t l s v g j b (other t l s v sound g upper_bytes lower_bytes j b room_records room_entries white low file)) file
               (subst (λ (q : ℕ). Walked t l (node_at (nodes_of s) q)) e h))
           go (no e) =
               subst (Walked after.table l) (sym (other_is i e))
@@ -249,7 +249,7 @@ module _ (t l s : List ℕ) (v : Valid t) (sound : SoundLayers t l) (g : Good t 
           valid = v;
           sound = sound;
           good = g;
-          bytes = upper-bytes;
+          bytes = upper_bytes;
           upper = h;
           file = file;
           count_same = refl;
@@ -315,8 +315,8 @@ module _ (t l s : List ℕ) (v : Valid t) (g : Good t l s) (f : ℕ) (b : f < co
 
 -- ---- after it the link's parent
 
-module _ (t l s : List ℕ) (v : Valid t) (sound : SoundLayers t l) (g : Good t l s) (upper-bytes : AllBytes t) (lower-bytes : AllBytes l) (j : ℕ) (bj : j < count_of s) (white : is_white (node_at (nodes_of s) j) ≡ false) (file : is_directory_node t l (node_at (nodes_of s) j) ≡ false)
-    (k : ℕ) (bk : k < count_of s) (dir : Walked t l (node_at (nodes_of s) k)) (room-records : used_records (records_of t) + missing_either s j k ≤ 128) (room-entries : used_entries (entries_of t) + suc (missing_either s j k) ≤ 128)
+module _ (t l s : List ℕ) (v : Valid t) (sound : SoundLayers t l) (g : Good t l s) (upper_bytes : AllBytes t) (lower_bytes : AllBytes l) (j : ℕ) (bj : j < count_of s) (white : is_white (node_at (nodes_of s) j) ≡ false) (file : is_directory_node t l (node_at (nodes_of s) j) ≡ false)
+    (k : ℕ) (bk : k < count_of s) (dir : Walked t l (node_at (nodes_of s) k)) (room_records : used_records (records_of t) + missing_either s j k ≤ 128) (room_entries : used_entries (entries_of t) + suc (missing_either s j k) ≤ 128)
   where
     abbrev u : Up
     u = copied_up l j (up t s)
@@ -325,7 +325,7 @@ module _ (t l s : List ℕ) (v : Valid t) (sound : SoundLayers t l) (g : Good t 
     w = made_path l k (copied_up l j (up t s))
 
     q : Copied t l s j (length (missing s j)) u
-    q = let f : length (missing_from 17 s j) ≤ missing_either s j k = missing_first t l s v g j k bj in copied_up_lem t l s v sound g upper-bytes lower-bytes j bj (omega arith) (omega arith) white file
+    q = let f : length (missing_from 17 s j) ≤ missing_either s j k = missing_first t l s v g j k bj in copied_up_lem t l s v sound g upper_bytes lower_bytes j bj (omega arith) (omega arith) white file
 
     parent_same : (i : ℕ) → parent_place u.state i ≡ parent_place s i
     parent_same i =
@@ -348,7 +348,7 @@ module _ (t l s : List ℕ) (v : Valid t) (sound : SoundLayers t l) (g : Good t 
         made_path_lem u.table l u.state q.valid q.sound q.good 16 k bk_u (q.walked_still k dir) (near_directory u.table l u.state q.good q.sound k bk_u (q.walked_still k dir)) (omega arith) (omega arith)
 
     bytes_w : AllBytes w.table
-    bytes_w = r.bytes q.bytes lower-bytes
+    bytes_w = r.bytes q.bytes lower_bytes
 
     count_w : count_of w.state ≡ count_of s
     count_w = r.count_same ∙ q.count_same
@@ -454,7 +454,7 @@ module _ (t l s : List ℕ) (v : Valid t) (sound : SoundLayers t l) (g : Good t 
       name_w =
           let e : key_of (node_at (nodes_of w.state) z) ≡ (node_at (nodes_of w.state) k).number ∷ x = held_w.1 in
           let y : node_name (node_at (nodes_of w.state) z) ≡ x = cc in
-          subst AllBytes y (node_name_bytes w.table l w.state bytes_w lower-bytes r.good z held_w.0 (white_other w.table l w.state r.valid r.good z held_w.0 marked_w))
+          subst AllBytes y (node_name_bytes w.table l w.state bytes_w lower_bytes r.good z held_w.0 (white_other w.table l w.state r.valid r.good z held_w.0 marked_w))
 
       over_keeps : Keeps l (linked j k (Held z) x (up w.table w.state))
       over_keeps =

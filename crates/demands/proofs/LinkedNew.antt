@@ -263,7 +263,7 @@ module _ (t l s : List ℕ) (v : Valid t) (g : Good t l s) (k : ℕ) (b : k < co
 -- ---- the link
 
 module _ (t l s : List ℕ) (v : Valid t) (g : Good t l s) (j : ℕ) (bj : j < count_of s) (upper_j : in_upper (node_at (nodes_of s) j) ≡ true) (no_directory : is_directory_node t l (node_at (nodes_of s) j) ≡ false)
-    (k : ℕ) (bk : k < count_of s) (upper-k : in_upper (node_at (nodes_of s) k) ≡ true) (directory : is_walked t (top_of (node_at (nodes_of s) k)).number ≡ true) (loaded : is_loaded (node_at (nodes_of s) k) ≡ true)
+    (k : ℕ) (bk : k < count_of s) (upper_k : in_upper (node_at (nodes_of s) k) ≡ true) (directory : is_walked t (top_of (node_at (nodes_of s) k)).number ≡ true) (loaded : is_loaded (node_at (nodes_of s) k) ≡ true)
     (x : Name) (well : WellFormed x) (short : length x ≤ 28) (q : ℕ) (seat : seat_of (nodes_of s) (node_at (nodes_of s) k).number x ≡ Open q) (i : ℕ) (free : free_entry_place (entries_of t) ≡ At i)
   where
     abbrev dir : ℕ
@@ -286,7 +286,7 @@ module _ (t l s : List ℕ) (v : Valid t) (g : Good t l s) (j : ℕ) (bj : j < c
     no_node = sym (sym (ap holder seat) ∙ seat_child (nodes_of s) g.nodes.sorted num x)
 
     no_entry : search_of (entries_of t) dir x ≡ Missing
-    no_entry = parent_absent t l s v g k bk upper-k directory loaded x no_node
+    no_entry = parent_absent t l s v g k bk upper_k directory loaded x no_node
 
     rec_there : Present (records_of t) rec
     rec_there = source_there t l s v g j bj upper_j no_directory
@@ -316,10 +316,10 @@ module _ (t l s : List ℕ) (v : Valid t) (g : Good t l s) (j : ℕ) (bj : j < c
         rec_live = source_live t l s v g j bj upper_j no_directory live
 
         held : (ps : List Pair) × (stack_list (node_by (nodes_of s) num) ≡ pair 0 dir ∷ ps)
-        held = parent_stack t l s v g k bk upper-k directory
+        held = parent_stack t l s v g k bk upper_k directory
 
         num_there : Resident (node_by (nodes_of s)) num
-        num_there = parent_there t l s v g k bk upper-k directory
+        num_there = parent_there t l s v g k bk upper_k directory
 
         few : length (pair 0 rec ∷ []) ≤ 4
         few = omega arith

@@ -205,7 +205,7 @@ upper_kept t w l a b n h e =
 
 -- one more below a made path
 module _ (t l s : List ℕ) (g : Good t l s) (k : ℕ) (b : k < count_of s) (other : (node_at (nodes_of s) k).number ≢ 1) (dir : Walked t l (node_at (nodes_of s) k)) (low : in_upper (node_at (nodes_of s) k) ≡ false) (c : ℕ) (u : Up) (p : MadePath t l s (parent_place s k) c u)
-    (room-records : used_records (records_of t) + suc c ≤ 128) (room-entries : used_entries (entries_of t) + suc c ≤ 128)
+    (room_records : used_records (records_of t) + suc c ≤ 128) (room_entries : used_entries (entries_of t) + suc c ≤ 128)
   where
     same : node_at (nodes_of u.state) k ≡ node_at (nodes_of s) k
     same = p.later_same k (parent_earlier t l s g k b other)

@@ -19,7 +19,7 @@ use Rattle.layers.proofs.CountLaws.{count_below, none_count}
 use Rattle.layers.specs.declared.items.Entry.{Entry}
 
 -- the entry at place `j`, read as `p` and `c`
-module _ (es : List Entry) (a : List ℕ) (j n : ℕ) (l : length es ≡ n) (h : j < n) (p : ℕ) (p-is : p ≡ (entry_at es j).parent) where
+module _ (es : List Entry) (a : List ℕ) (j n : ℕ) (l : length es ≡ n) (h : j < n) (p : ℕ) (p_is : p ≡ (entry_at es j).parent) where
   naming_step : (r : ℕ) → naming r (drop j es) ≡ one (names_record r (entry_at es j)) + naming r (drop (j + 1) es)
   unfolding count_if
   naming_step r = rw (add-one j, drop-cons es j free_entry (omega arith)) refl
@@ -32,7 +32,7 @@ module _ (es : List Entry) (a : List ℕ) (j n : ℕ) (l : length es ≡ n) (h :
   module _ (z : p ≡ 0) where
     none_here : (r : ℕ) → names_record r (entry_at es j) ≡ false
     unfolding names_record
-    none_here r = rw (eq-eqb (entry_at es j).parent 0 (sym p-is ∙ z)) refl
+    none_here r = rw (eq-eqb (entry_at es j).parent 0 (sym p_is ∙ z)) refl
 
     pub counted_free : Counted (drop (j + 1) es) a → Counted (drop j es) a
     unfolding one
@@ -41,10 +41,10 @@ module _ (es : List Entry) (a : List ℕ) (j n : ℕ) (l : length es ≡ n) (h :
     pub parented_free : Parented (drop (j + 1) es) a → Parented (drop j es) a
     parented_free g = record { sized = g.sized; parents = λ r b. g.parents r b ∙ sym (parent_step r ∙ rw (none_here r) refl) }
 
-  module _ (z : p ≡ 0 → ⊥) (c : ℕ) (c-is : c ≡ (entry_at es j).child) (w : ℕ) (w-is : w ≡ c) where
+  module _ (z : p ≡ 0 → ⊥) (c : ℕ) (c_is : c ≡ (entry_at es j).child) (w : ℕ) (w_is : w ≡ c) where
     names_here : (r : ℕ) → names_record r (entry_at es j) ≡ eqb w r
     unfolding names_record
-    names_here r = rw (ne_eqb (entry_at es j).parent 0 (λ e. z (p-is ∙ e))) (ap (λ (k : ℕ). eqb k r) (sym (w-is ∙ c-is)))
+    names_here r = rw (ne_eqb (entry_at es j).parent 0 (λ e. z (p_is ∙ e))) (ap (λ (k : ℕ). eqb k r) (sym (w_is ∙ c_is)))
 
     pub counted_used : Counted (drop (j + 1) es) a → Counted (drop j es) (set a w (get_or a w 0 + 1))
     unfolding one
@@ -63,7 +63,7 @@ module _ (es : List Entry) (a : List ℕ) (j n : ℕ) (l : length es ≡ n) (h :
         go : (r : ℕ) → r < 256 → Dec (w ≡ r) → get_or (set a w p) r 0 ≡ parent_of (drop j es) r
         go r b (yes e) =
             let k : length a ≡ 256 = g.sized in
-            rw (parent_step r, names_here r, eq-eqb w r e, e) (get_or-set_same a r p 0 (omega arith) ∙ p-is)
+            rw (parent_step r, names_here r, eq-eqb w r e, e) (get_or-set_same a r p 0 (omega arith) ∙ p_is)
         go r b (no e) = rw (parent_step r, names_here r, ne_eqb w r e) (get_or-set_other a w r p 0 (λ q. e (sym q)) ∙ g.parents r b)
 
 -- a count fits its byte

@@ -28,7 +28,7 @@ module _ {A : Type 0} (p : ℕ → A → Bool) (xs ys : List A) (d : A) (s k i m
   pub every_not : (r : Bool) → r ≡ p k (get_or xs i d) → r ≡ false → length xs ≡ n → m ≤ n → i < m → every p k (drop i xs) ≡ every p s ys → false ≡ every p s ys
   every_not r q f l b h e = sym (every_step (omega arith) ∙ ap (λ t. cond t (every p (suc k) (drop (suc i) xs)) false) (sym q ∙ f)) ∙ e
 
-pub ruleset every-walk = (every_next, every_not)
+pub ruleset every_walk = (every_next, every_not)
 
 -- ---- what it says of each place
 

@@ -92,11 +92,11 @@ module _ (a b : Name) (i : ℕ) where
   unfolding order_of
   order_same l m h = sym (rw (drop_of_length-le a {i = i} l, drop_of_length-le b {i = i} m) refl) ∙ h
 
-pub ruleset same-walk = (same_lengths, same_next, same_not, same_end)
+pub ruleset same_walk = (same_lengths, same_next, same_not, same_end)
 
-pub ruleset holds-walk = (holds_next, holds_here, holds_end)
+pub ruleset holds_walk = (holds_next, holds_here, holds_end)
 
-pub ruleset order-walk = (order_next, order_before, order_after, order_longer, order_shorter, order_same)
+pub ruleset order_walk = (order_next, order_before, order_after, order_longer, order_shorter, order_same)
 
 -- a name that a callee answered
 pub same_of : (r : Bool) (a b x : Name) → r ≡ same_name a x → a ≡ b → r ≡ same_name b x

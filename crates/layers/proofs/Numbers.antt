@@ -108,7 +108,7 @@ module _ (w : ℕ) (t : List ℕ) (a : ℕ) where
   pub number_read : (r : ℕ) → w ≤ length t → a ≤ length t - w → r ≡ le_of (take w (take (length t - a) (drop a t))) → r ≡ number_at w t a
   number_read r l h = number_held r (omega arith)
 
-pub ruleset number-walk = (number_short, number_past, number_read)
+pub ruleset number_walk = (number_short, number_past, number_read)
 
 module _ (t : List ℕ) (a : ℕ) (b : List ℕ) where
   pub laid_short : length t < length b → t ≡ laid t a b
@@ -134,7 +134,7 @@ module _ (t : List ℕ) (a : ℕ) (b : List ℕ) where
       go true e = length_over t a b (leb-true (a + length b) (length t) e)
       go false e = refl
 
-pub ruleset laid-walk = (laid_short, laid_past, laid_over)
+pub ruleset laid_walk = (laid_short, laid_past, laid_over)
 
 -- the bytes of a number that a callee answered
 pub laid_bytes : (t u : List ℕ) (a : ℕ) (b c : List ℕ) → u ≡ laid t a b → b ≡ c → u ≡ laid t a c

@@ -124,11 +124,11 @@ be_order (x ∷ xs) (y ∷ ys) r s l h k =
     decided_more (256 ^ length ys * x + be_of xs) (256 ^ length ys * y + be_of ys) (order_of r s) (order_of (x ∷ (xs ++ r)) (y ∷ (ys ++ s))) (omega arith) (after_gt x y (xs ++ r) (ys ++ s) g)))
 
 -- ---- one number of `w` bytes of a walk
-module _ (w : ℕ) (a b : Name) (i x y : ℕ) (known : AllBytes a) (known-too : AllBytes b) (l : i + w ≤ length a) (m : i + w ≤ length b) (p : x ≡ be_of (take w (take (length a - i) (drop i a)))) (q : y ≡ be_of (take w (take (length b - i) (drop i b)))) where
+module _ (w : ℕ) (a b : Name) (i x y : ℕ) (known : AllBytes a) (known_too : AllBytes b) (l : i + w ≤ length a) (m : i + w ≤ length b) (p : x ≡ be_of (take w (take (length a - i) (drop i a)))) (q : y ≡ be_of (take w (take (length b - i) (drop i b)))) where
   word_step : order_of (drop i a) (drop i b) ≡ decided x y (order_of (drop (i + w) a) (drop (i + w) b))
   word_step =
       ap₂ order_of (split a) (split b)
-      ∙ (be_order (part a i w) (part b i w) (drop (i + w) a) (drop (i + w) b) (long a l ∙ sym (long b m)) (bytes_take (drop i a) w (bytes_drop a i known)) (bytes_take (drop i b) w (bytes_drop b i known-too))
+      ∙ (be_order (part a i w) (part b i w) (drop (i + w) a) (drop (i + w) b) (long a l ∙ sym (long b m)) (bytes_take (drop i a) w (bytes_drop a i known)) (bytes_take (drop i b) w (bytes_drop b i known_too))
       ∙ ap₂ (λ (u v : ℕ). decided u v (order_of (drop (i + w) a) (drop (i + w) b))) (sym (p ∙ ap be_of (take-take w (length a - i) (drop i a) (omega arith)))) (sym (q ∙ ap be_of (take-take w (length b - i) (drop i b) (omega arith)))))
     where
       split : (c : Name) → drop i c ≡ part c i w ++ drop (i + w) c

@@ -103,9 +103,9 @@ inserted_front p n i q h l =
     rw (take-take i n p h, d, ← append_assoc (take i p) (q ∷ part p i (n - i)) (drop (suc n) p))
     (take_at (take i p ++ q ∷ part p i (n - i)) (drop (suc n) p) (suc n) (simp (length-append, length-take, length-drop) (omega arith)))
 
-module _ (f : ℕ → Name) (p : List ℕ) (n : ℕ) (q : ℕ) (x : Name) (x-is : x ≡ f q) (s : Spot) (s-is : s ≡ spot_from f 0 x (take n p)) where
+module _ (f : ℕ → Name) (p : List ℕ) (n : ℕ) (q : ℕ) (x : Name) (x_is : x ≡ f q) (s : Spot) (s_is : s ≡ spot_from f 0 x (take n p)) where
   spot_of_q : spot_from f 0 (f q) (take n p) ≡ s
-  spot_of_q = rw (← x-is) (sym s-is)
+  spot_of_q = rw (← x_is) (sym s_is)
 
   pub insert_taken : s ≡ Taken → take n p ≡ insert_by f q (take n p)
   insert_taken h = taken_stays f q 0 (take n p) (spot_of_q ∙ h)

@@ -29,7 +29,7 @@ use Rattle.layers.specs.declared.spots.Spot.{Spot}
 use Rattle.layers.specs.declared.spots.Spot.TheVariants.{Free, Taken}
 
 -- ---- two places compared, parent before name
-module _ (es : List Entry) (a b x y : ℕ) (x-is : x ≡ (entry_at es a).parent) (y-is : y ≡ (entry_at es b).parent) where
+module _ (es : List Entry) (a b x y : ℕ) (x_is : x ≡ (entry_at es a).parent) (y_is : y ≡ (entry_at es b).parent) where
   pub key_before : x < y → Before ≡ order_of (place_key es a) (place_key es b)
   unfolding place_key
   key_before h = sym (before_lt (entry_at es a).parent (entry_at es b).parent (name_of (entry_at es a)) (name_of (entry_at es b)) (omega arith))
@@ -141,13 +141,13 @@ module _ (es : List Entry) (p : List ℕ) (j n : ℕ) (g : Ordered es j (take n 
   abbrev spot : Spot
   spot = spot_from (place_key es) 0 (place_key es j) (take n p)
 
-  module _ (x : ℕ) (x-is : x ≡ (entry_at es j).parent) (x-used : x ≡ 0 → ⊥) (r : Bool) (r-is : r ≡ is_open spot) where
+  module _ (x : ℕ) (x_is : x ≡ (entry_at es j).parent) (x_used : x ≡ 0 → ⊥) (r : Bool) (r_is : r ≡ is_open spot) where
     used_j : Used es j
-    used_j e = x-used (x-is ∙ e)
+    used_j e = x_used (x_is ∙ e)
 
     pub taken_twice : r ≡ false → false ≡ distinct_test es
     unfolding is_open
-    taken_twice h = go spot refl (sym r-is ∙ h)
+    taken_twice h = go spot refl (sym r_is ∙ h)
       where
         twice : spot ≡ Taken → NamesAreDistinct es → ⊥
         twice s d =
@@ -167,7 +167,7 @@ module _ (es : List Entry) (p : List ℕ) (j n : ℕ) (g : Ordered es j (take n 
 
     pub ordered_next : r ≡ true → n ≤ j → j < 128 → length p ≡ 512 → (u : List ℕ) → u ≡ put_spot spot p n j → Ordered es (j + 1) (take (n + 1) u)
     unfolding is_open put_spot
-    ordered_next h a b l u u-is = go spot refl (sym r-is ∙ h) u-is
+    ordered_next h a b l u u-is = go spot refl (sym r_is ∙ h) u-is
       where
         up : (q : ℕ) → q < j → q < j + 1
         up q h = omega arith
@@ -210,17 +210,17 @@ pub key_of : (es : List Entry) (w q : ℕ) → w ≡ q → place_key es w ≡ pl
 key_of es w q e = ap (place_key es) e
 
 -- ---- as the code puts a place in
-module _ (es : List Entry) (p : List ℕ) (n j : ℕ) (s : Spot) (s-is : s ≡ spot_from (place_key es) 0 (place_key es j) (take n p)) where
+module _ (es : List Entry) (p : List ℕ) (n j : ℕ) (s : Spot) (s_is : s ≡ spot_from (place_key es) 0 (place_key es j) (take n p)) where
   pub put_taken : s ≡ Taken → PutPlace es p n j false p
   unfolding is_open put_spot
-  put_taken h = record { answer = ap is_open (sym h ∙ s-is); places = ap (λ (k : Spot). put_spot k p n j) (sym h ∙ s-is) }
+  put_taken h = record { answer = ap is_open (sym h ∙ s_is); places = ap (λ (k : Spot). put_spot k p n j) (sym h ∙ s_is) }
 
   pub put_free : (i : ℕ) → s ≡ Free i → (u : List ℕ) → u ≡ put_in p n i j → PutPlace es p n j true u
   unfolding is_open put_spot
-  put_free i h u e = record { answer = ap is_open (sym h ∙ s-is); places = e ∙ ap (λ (k : Spot). put_spot k p n j) (sym h ∙ s-is) }
+  put_free i h u e = record { answer = ap is_open (sym h ∙ s_is); places = e ∙ ap (λ (k : Spot). put_spot k p n j) (sym h ∙ s_is) }
 
 -- the halving meets the entry's parent and name
 pub halved_met : (es : List Entry) (p : List ℕ) (j : ℕ) (s : Spot) (lo hi : ℕ) → Halved (place_key es) p (place_key es j) s lo hi → length p ≡ 512 → hi ≤ 512 → lo < hi
     → (w : ℕ) → w ≡ get_or p (lo + (hi - lo) / 2) 0 → (o : Order) → o ≡ order_of (place_key es j) (place_key es w) → o ≡ Same → Taken ≡ s
-halved_met es p j s lo hi h g b lt w w-is o o_is e =
-    halved_same (place_key es) p (place_key es j) s lo hi (lo + (hi - lo) / 2) h g b lt refl (place_key es w) (key_of es w (get_or p (lo + (hi - lo) / 2) 0) w-is) o o_is e
+halved_met es p j s lo hi h g b lt w w_is o o_is e =
+    halved_same (place_key es) p (place_key es j) s lo hi (lo + (hi - lo) / 2) h g b lt refl (place_key es w) (key_of es w (get_or p (lo + (hi - lo) / 2) 0) w_is) o o_is e

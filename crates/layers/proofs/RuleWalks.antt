@@ -38,7 +38,7 @@ module _ (x : List ℕ) (i : ℕ) where
   unfolding all_zero
   zero_end l h = sym (rw (drop_of_length-le x {i = i} l) refl) ∙ h
 
-pub ruleset zero-walk = (zero_next, zero_not, zero_end)
+pub ruleset zero_walk = (zero_next, zero_not, zero_end)
 
 -- ---- a callee's test, turned round
 module _ {A : Type 0} (z x y : A) (r t : Bool) (q : r ≡ t) where
@@ -88,22 +88,22 @@ length_front x n m l = simp length-take (omega arith)
 -- ---- a record's place, and an item, on their way through a callee
 module _ (rs : List Record) (r w p : ℕ) where
   pub kind_via : r ≡ (record_at rs w).kind → w ≡ p → r ≡ (record_at rs p).kind
-  kind_via e w-is = e ∙ ap (λ (i : ℕ). (record_at rs i).kind) w-is
+  kind_via e w_is = e ∙ ap (λ (i : ℕ). (record_at rs i).kind) w_is
 
   pub child_via : r ≡ (record_at rs w).number → w ≡ p → not (eqb r 0) ≡ child_test rs p
-  child_via e w-is = ap (λ (k : ℕ). not (eqb k 0)) (e ∙ ap (λ (i : ℕ). (record_at rs i).number) w-is)
+  child_via e w_is = ap (λ (k : ℕ). not (eqb k 0)) (e ∙ ap (λ (i : ℕ). (record_at rs i).number) w_is)
 
 pub entry_test_of : (e g : Entry) (r : Bool) → r ≡ entry_test e → e ≡ g → r ≡ entry_test g
-entry_test_of e g r q e-is = q ∙ ap entry_test e-is
+entry_test_of e g r q e_is = q ∙ ap entry_test e_is
 
 pub ends_test_of : (rs : List Record) (e g : Entry) (r : Bool) → r ≡ ends_test rs e → e ≡ g → r ≡ ends_test rs g
-ends_test_of rs e g r q e-is = q ∙ ap (ends_test rs) e-is
+ends_test_of rs e g r q e_is = q ∙ ap (ends_test rs) e_is
 
 pub record_test_of : (i : ℕ) (r s : Record) (b : Bool) → b ≡ record_test i r → r ≡ s → b ≡ record_test i s
-record_test_of i r s b q r-is = q ∙ ap (record_test i) r-is
+record_test_of i r s b q r_is = q ∙ ap (record_test i) r_is
 
 pub naming_test_of : (es : List Entry) (i : ℕ) (r s : Record) (b : Bool) (c : List ℕ) → b ≡ count_test (get_or c i 0) i r → r ≡ s → Counted es c → i < 129 → b ≡ count_test (naming i es) i s
-naming_test_of es i r s b c q r-is g l = q ∙ (ap (count_test (get_or c i 0) i) r-is ∙ ap (λ (k : ℕ). count_test k i s) (g.counts i (omega arith)))
+naming_test_of es i r s b c q r_is g l = q ∙ (ap (count_test (get_or c i 0) i) r_is ∙ ap (λ (k : ℕ). count_test k i s) (g.counts i (omega arith)))
 
 -- ---- the tests of one walk are those of the rules
 module _ (rs : List Record) (es : List Entry) (b : Bool) where
@@ -119,14 +119,14 @@ module _ (rs : List Record) (es : List Entry) (b : Bool) where
       ∙ ap (λ (q : Bool). cond (every record_test 1 rs) q false) (every_both (naming_test es) (reach_test es) 1 rs))
 
 -- ---- the way up, by the parents that were kept
-module _ (rs : List Record) (es : List Entry) (i k : ℕ) (k-is : k ≡ (record_at rs i).kind) where
+module _ (rs : List Record) (es : List Entry) (i k : ℕ) (k_is : k ≡ (record_at rs i).kind) where
   pub reach_other : (k ≡ 4 → ⊥) → true ≡ reach_test es i (record_at rs i)
   unfolding reach_test
-  reach_other h = rw (ne_eqb (record_at rs i).kind 4 (λ e. h (k-is ∙ e))) refl
+  reach_other h = rw (ne_eqb (record_at rs i).kind 4 (λ e. h (k_is ∙ e))) refl
 
   pub reach_start : k ≡ 4 → climbs 16 es i ≡ reach_test es i (record_at rs i)
   unfolding reach_test
-  reach_start h = rw (eq-eqb (record_at rs i).kind 4 (sym k-is ∙ h)) refl
+  reach_start h = rw (eq-eqb (record_at rs i).kind 4 (sym k_is ∙ h)) refl
 
 module _ (es : List Entry) (n q : ℕ) (b : Bool) where
   pub climb_here : 0 < n → q ≡ 1 → climbs n es q ≡ b → true ≡ b

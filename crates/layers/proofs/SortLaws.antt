@@ -114,7 +114,7 @@ pub halved_end : (f : ℕ → Name) (p : List ℕ) (x : Name) (s : Spot) (lo hi 
 unfolding spot_from
 halved_end f p x s lo hi h l = let e : hi - lo ≡ 0 = omega arith in sym (rw e refl) ∙ h.answers
 
-module _ (f : ℕ → Name) (p : List ℕ) (x : Name) (s : Spot) (lo hi mid : ℕ) (h : Halved f p x s lo hi) (g : length p ≡ 512) (b : hi ≤ 512) (lt : lo < hi) (mid-is : mid ≡ lo + (hi - lo) / 2) (y : Name) (y-is : y ≡ f (get_or p mid 0)) (o : Order) (o_is : o ≡ order_of x y) where
+module _ (f : ℕ → Name) (p : List ℕ) (x : Name) (s : Spot) (lo hi mid : ℕ) (h : Halved f p x s lo hi) (g : length p ≡ 512) (b : hi ≤ 512) (lt : lo < hi) (mid_is : mid ≡ lo + (hi - lo) / 2) (y : Name) (y_is : y ≡ f (get_or p mid 0)) (o : Order) (o_is : o ≡ order_of x y) where
   abbrev ls : List ℕ
   ls = part p lo (mid - lo)
 
@@ -125,7 +125,7 @@ module _ (f : ℕ → Name) (p : List ℕ) (x : Name) (s : Spot) (lo hi mid : �
   cut_here = split_part p lo mid hi (omega arith) (omega arith) (omega arith)
 
   order_here : (k : Order) → o ≡ k → order_of x (f (get_or p mid 0)) ≡ k
-  order_here k e = rw (← y-is, ← o_is) e
+  order_here k e = rw (← y_is, ← o_is) e
 
   ordered : Sorted f (ls ++ get_or p mid 0 ∷ rs)
   ordered = subst (λ (l : List ℕ). Sorted f l) cut_here h.sorted

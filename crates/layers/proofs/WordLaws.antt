@@ -30,11 +30,11 @@ module _ (w : ℕ) (a b : Name) (i x y : ℕ) (p : x ≡ number_at w a i) (q : y
       go false e = refl
 
   -- bytes that make one number are the same bytes
-  module _ (known : AllBytes a) (known-too : AllBytes b) (l : i + w ≤ length a) (m : i + w ≤ length b) (e : x ≡ y) where
+  module _ (known : AllBytes a) (known_too : AllBytes b) (l : i + w ≤ length a) (m : i + w ≤ length b) (e : x ≡ y) where
     word_same : part a i w ≡ part b i w
     word_same =
         let n : le_of (part a i w) ≡ le_of (part b i w) = sym (number_in w a i l) ∙ (sym p ∙ (e ∙ (q ∙ number_in w b i m))) in
-        sym (again a known i w l) ∙ (ap (le_bytes w) n ∙ again b known-too i w m)
+        sym (again a known i w l) ∙ (ap (le_bytes w) n ∙ again b known_too i w m)
 
     word_add : take i a ≡ take i b → take (i + w) a ≡ take (i + w) b
     word_add h = take-add i w a ∙ (ap₂ ◌++◌ h word_same ∙ sym (take-add i w b))
@@ -45,7 +45,7 @@ word_next w a b i x y h p q e l m k k' = word_add w a b i x y p q k k' (omega ar
 -- the last number ends where the names end
 module _ (w : ℕ) (a b : Name) (i x y : ℕ) (p : x ≡ number_at w a (length a - w)) (q : y ≡ number_at w b (length a - w)) where
   pub words_end : x ≡ y → AllBytes a → AllBytes b → w ≤ length a → length a ≡ length b → length a - w ≤ i → take i a ≡ take i b → true ≡ same_name a b
-  words_end e known known-too s l j h = sym (same_refl a) ∙ ap (same_name a) (sym (all a refl) ∙ (ap₂ ◌++◌ front back ∙ all b (sym l)))
+  words_end e known known_too s l j h = sym (same_refl a) ∙ ap (same_name a) (sym (all a refl) ∙ (ap₂ ◌++◌ front back ∙ all b (sym l)))
     where
       all : (c : Name) → length c ≡ length a → take (length a - w) c ++ part c (length a - w) w ≡ c
       all c m = ap (λ (r : Name). take (length a - w) c ++ r) (take_all w (drop (length a - w) c) (simp length-drop (omega arith))) ∙ take-append-drop (length a - w) c
@@ -54,7 +54,7 @@ module _ (w : ℕ) (a b : Name) (i x y : ℕ) (p : x ≡ number_at w a (length a
       front = sym (take-take (length a - w) i a j) ∙ (ap (take (length a - w)) h ∙ take-take (length a - w) i b j)
 
       back : part a (length a - w) w ≡ part b (length a - w) w
-      back = word_same w a b (length a - w) x y p q known known-too (omega arith) (omega arith) e
+      back = word_same w a b (length a - w) x y p q known known_too (omega arith) (omega arith) e
 
 -- two numbers, of which `x` and `y` were found equal, `u` and `v` start the names
 module _ (w : ℕ) (a b : Name) (x y u v : ℕ) (p : x ≡ number_at w a (length a - w)) (q : y ≡ number_at w b (length a - w)) (r : u ≡ number_at w a 0) (s : v ≡ number_at w b 0) where

@@ -20,9 +20,9 @@ none_of : (o n a b : ℕ) → o + n ≡ a + b → n ≤ a → n ≤ b → eqb o 
 none_of o n a b s p q = go (eqb a 0) (eqb b 0) refl refl
   where
     go : (x y : Bool) → eqb a 0 ≡ x → eqb b 0 ≡ y → eqb o 0 ≡ cond x y false
-    go true true e f = let a-is : a ≡ 0 = eqb-true a 0 e in let b-is : b ≡ 0 = eqb-true b 0 f in eq-eqb o 0 (omega arith)
-    go true false e f = let a-is : a ≡ 0 = eqb-true a 0 e in let b-is : (b ≡ 0 → ⊥) = eqb-false b 0 f in ne_eqb o 0 (λ z. omega arith)
-    go false y e f = let a-is : (a ≡ 0 → ⊥) = eqb-false a 0 e in ne_eqb o 0 (λ z. omega arith)
+    go true true e f = let a_is : a ≡ 0 = eqb-true a 0 e in let b_is : b ≡ 0 = eqb-true b 0 f in eq-eqb o 0 (omega arith)
+    go true false e f = let a_is : a ≡ 0 = eqb-true a 0 e in let b_is : (b ≡ 0 → ⊥) = eqb-false b 0 f in ne_eqb o 0 (λ z. omega arith)
+    go false y e f = let a_is : (a ≡ 0 → ⊥) = eqb-false a 0 e in ne_eqb o 0 (λ z. omega arith)
 
 no_bit : (a b : ℕ) → eqb (bit_or a b) 0 ≡ cond (eqb a 0) (eqb b 0) false
 no_bit a b = none_of (bit_or a b) (bit_and a b) a b (or_add_and a b) (and_le_l a b) (and_le_r a b)
@@ -93,8 +93,8 @@ zeros_are : (xs : List ℕ) → all_zero xs ≡ true → xs ≡ replicate (lengt
 unfolding all_zero
 zeros_are [] h = refl
 zeros_are (x ∷ xs) h =
-    let x-is : x ≡ 0 = eqb-true x 0 (left_of (eqb x 0) (all_zero xs) h) in
-    rw x-is (ap (λ (t : List ℕ). 0 ∷ t) (zeros_are xs (right_of (eqb x 0) (all_zero xs) h)))
+    let x_is : x ≡ 0 = eqb-true x 0 (left_of (eqb x 0) (all_zero xs) h) in
+    rw x_is (ap (λ (t : List ℕ). 0 ∷ t) (zeros_are xs (right_of (eqb x 0) (all_zero xs) h)))
 
 -- a place of 32 bytes behind `n` places
 pub free_place : (b : List ℕ) (n j : ℕ) → all_zero (drop (32 * n) b) ≡ true → n ≤ j → length (take 32 (drop (32 * j) b)) ≡ 32 → take 32 (drop (32 * j) b) ≡ replicate 32 0

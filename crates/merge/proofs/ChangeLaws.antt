@@ -156,7 +156,7 @@ module _ (s : List ℕ) (n : Node) (x : ℕ) (a : x ≡ next_of s) (l : 42949672
   unfolding inserted_at
   no_number_bytes = rw no_new_spot refl
 
-pub ruleset new-numbers = (no_spot_number, new_number_lem, no_number)
+pub ruleset new_numbers = (no_spot_number, new_number_lem, no_number)
 
 pub ruleset news = (no_spot_bytes, new_bytes_lem, no_number_bytes)
 

@@ -34,10 +34,10 @@ pub not_walked : (t : List ℕ) (d : ℕ) → (length t ≡ 8192 → ⊥) → fa
 unfolding is_walked
 not_walked t d h = rw (ne_eqb (length t) 8192 h) refl
 
-module _ (t : List ℕ) (d : ℕ) (r : Bool) (r-is : r ≡ is_walked t d) where
+module _ (t : List ℕ) (d : ℕ) (r : Bool) (r_is : r ≡ is_walked t d) where
   pub walked_long : r ≡ true → length t ≡ 8192
   unfolding is_walked
-  walked_long h = go (eqb (length t) 8192) refl (sym r-is ∙ h)
+  walked_long h = go (eqb (length t) 8192) refl (sym r_is ∙ h)
     where
       go : (b : Bool) → eqb (length t) 8192 ≡ b → cond b (is_directory (record_at (records_of t) d)) false ≡ true → length t ≡ 8192
       go true e g = eqb-true (length t) 8192 e
@@ -65,14 +65,14 @@ module _ (t : List ℕ) (d : ℕ) (x : Name) where
     unfolding child_at
     named_at k r q h = h ∙ rw (← p, q) refl
 
-  module _ (n : ℕ) (n-is : n ≡ named (entries_of t) d x) where
+  module _ (n : ℕ) (n_is : n ≡ named (entries_of t) d x) where
     pub seen_none : n ≡ 0 → Nothing ≡ seen_of t d x
     unfolding seen_of
-    seen_none h = rw (← n-is, h) refl
+    seen_none h = rw (← n_is, h) refl
 
     pub seen_there : (n ≡ 0 → ⊥) → (c : Class) → c ≡ class_at t d n → There c n ≡ seen_of t d x
     unfolding seen_of
-    seen_there h c q = rw (← n-is, ne_eqb n 0 h, q) refl
+    seen_there h c q = rw (← n_is, ne_eqb n 0 h, q) refl
 
 -- ---- a class and the scan: a directory is walked, and an opaque one ends the scan
 

@@ -44,10 +44,10 @@ module _ (u l : List ℕ) (o : Stack) (k : ℕ) (q : RootsLeft u l o k) where
   unfolding roots_from push_all
   roots_end h = let z : 4 - k ≡ 0 = omega arith in sym (rw z refl) ∙ q
 
-  module _ (h : k < 4) (t : List ℕ) (w : ℕ) (t-is : t ≡ table_of u l w) (w-is : w ≡ k) where
+  module _ (h : k < 4) (t : List ℕ) (w : ℕ) (t_is : t ≡ table_of u l w) (w_is : w ≡ k) where
     step : push_all o (cond (eqb (length t) 8192) (pair k 1 ∷ roots_from u l (suc k) (4 - suc k)) (roots_from u l (suc k) (4 - suc k))) ≡ stack_from (root_stack u l) false
     unfolding roots_from
-    step = let z : 4 - k ≡ suc (4 - suc k) = omega arith in rw (t-is, w-is) (sym (rw z refl) ∙ q)
+    step = let z : 4 - k ≡ suc (4 - suc k) = omega arith in rw (t_is, w_is) (sym (rw z refl) ∙ q)
 
     pub roots_there : length t ≡ 8192 → (o' : Stack) → o' ≡ push o (pair k 1) → RootsLeft u l o' (k + 1)
     unfolding push_all
@@ -56,7 +56,7 @@ module _ (u l : List ℕ) (o : Stack) (k : ℕ) (q : RootsLeft u l o k) where
     pub roots_skip : (length t ≡ 8192 → ⊥) → RootsLeft u l o (k + 1)
     roots_skip e = rw (add-one k) (sym (rw (ne_eqb (length t) 8192 e) refl) ∙ step)
 
-pub ruleset roots-walk = (roots_end, roots_there, roots_skip)
+pub ruleset roots_walk = (roots_end, roots_there, roots_skip)
 
 -- ---- the merge afresh
 

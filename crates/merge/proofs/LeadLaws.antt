@@ -31,7 +31,7 @@ pub top_is : (s : List ℕ) (j r : ℕ) (h : j < count_of s) (l : 52 * j + 64 �
 top_is s j r h l e = e ∙ sym (rw (name_is s j h l) (ap be_of (take-take 8 28 (drop (12 + 52 * j + 24) s) (omega arith))))
 
 -- the name in hand and a node's, of which both have 8 bytes
-module _ (s x : List ℕ) (j w v d : ℕ) (h : j < count_of s) (l : 52 * j + 64 ≤ length s) (known : AllBytes s) (known-too : AllBytes x) (q : d ≡ (node_at (nodes_of s) j).length) (a : 8 ≤ length x) (b : 8 ≤ d) (e : w ≡ lead_of x) (f : v ≡ top_word (node_at (nodes_of s) j).name) where
+module _ (s x : List ℕ) (j w v d : ℕ) (h : j < count_of s) (l : 52 * j + 64 ≤ length s) (known : AllBytes s) (known_too : AllBytes x) (q : d ≡ (node_at (nodes_of s) j).length) (a : 8 ≤ length x) (b : 8 ≤ d) (e : w ≡ lead_of x) (f : v ≡ top_word (node_at (nodes_of s) j).name) where
   name_bytes : AllBytes (node_name (node_at (nodes_of s) j))
   name_bytes =
       rw (name_is s j h l)
@@ -54,10 +54,10 @@ module _ (s x : List ℕ) (j w v d : ℕ) (h : j < count_of s) (l : 52 * j + 64 
       ∙ take-take 8 (node_at (nodes_of s) j).length (node_at (nodes_of s) j).name (omega arith)))
 
   pub lead_after : v < w → After ≡ order_of x (node_name (node_at (nodes_of s) j))
-  lead_after g = word_after 8 x (node_name (node_at (nodes_of s) j)) 0 w v known-too name_bytes (omega arith) (omega (arith, long)) mine theirs g refl
+  lead_after g = word_after 8 x (node_name (node_at (nodes_of s) j)) 0 w v known_too name_bytes (omega arith) (omega (arith, long)) mine theirs g refl
 
   pub lead_before : w ≤ v → (v ≡ w → ⊥) → Before ≡ order_of x (node_name (node_at (nodes_of s) j))
-  lead_before g n = word_before 8 x (node_name (node_at (nodes_of s) j)) 0 w v known-too name_bytes (omega arith) (omega (arith, long)) mine theirs (omega arith) refl
+  lead_before g n = word_before 8 x (node_name (node_at (nodes_of s) j)) 0 w v known_too name_bytes (omega arith) (omega (arith, long)) mine theirs (omega arith) refl
 
 -- two names compared byte by byte
 pub order_with : (x y z : Name) (o : Order) → y ≡ z → o ≡ order_of x y → o ≡ order_of x z

@@ -189,16 +189,16 @@ module _ (u l : List ℕ) (k d q : ℕ) where
   unfolding holds_place
   other_layer h = rw (ne_eqb k (q / 128) h) refl
 
-  module _ (e : k ≡ q / 128) (t : List ℕ) (w : ℕ) (t-is : t ≡ table_of u l w) (w-is : w ≡ k) where
+  module _ (e : k ≡ q / 128) (t : List ℕ) (w : ℕ) (t_is : t ≡ table_of u l w) (w_is : w ≡ k) where
     pub no_layer_lem : (length t ≡ 8192 → ⊥) → false ≡ holds_place u l k d q
     unfolding holds_place
-    no_layer_lem h = rw (eq-eqb k (q / 128) e, ← w-is, ← t-is, ne_eqb (length t) 8192 h) refl
+    no_layer_lem h = rw (eq-eqb k (q / 128) e, ← w_is, ← t_is, ne_eqb (length t) 8192 h) refl
 
     pub holds_is : (r : Bool) → length t ≡ 8192 → r ≡ in_directory d (entry_at (entries_of t) (q % 128)) → r ≡ holds_place u l k d q
     unfolding holds_place
-    holds_is r h g = rw (eq-eqb k (q / 128) e, ← w-is, ← t-is, h) g
+    holds_is r h g = rw (eq-eqb k (q / 128) e, ← w_is, ← t_is, h) g
 
-pub ruleset holds-place = (other_layer, no_layer_lem, holds_is)
+pub ruleset holds_place_lem = (other_layer, no_layer_lem, holds_is)
 
 module _ (u l : List ℕ) (s : List Pair) (len : ℕ) (x : Name) (q : ℕ) where
   -- from place `i` of the stack on `q` is still the topmost place, and no directory before has the name
@@ -209,7 +209,7 @@ module _ (u l : List ℕ) (s : List Pair) (len : ℕ) (x : Name) (q : ℕ) where
   pub passing_start : top_place u l x (scanned u l (take len s)) ≡ At q → Passing 0
   passing_start h = record { top = h; above = above_none u l (take len s) x }
 
-  module _ (z : Pair) (i : ℕ) (p : Passing i) (g : length s ≡ 4) (h : i ≤ 4) (n : i ≡ 4 → ⊥) (e : i < len) (r : Bool) (r-is : r ≡ holds_place u l (get_or s i z).layer (get_or s i z).number q) where
+  module _ (z : Pair) (i : ℕ) (p : Passing i) (g : length s ≡ 4) (h : i ≤ 4) (n : i ≡ 4 → ⊥) (e : i < len) (r : Bool) (r_is : r ≡ holds_place u l (get_or s i z).layer (get_or s i z).number q) where
     front : drop i (take len s) ≡ get_or s i z ∷ drop (i + 1) (take len s)
     front = rw (drop-cons (take len s) i z (simp length-take (omega arith)), get_or-take len s i z e, add-one i) refl
 
@@ -219,12 +219,12 @@ module _ (u l : List ℕ) (s : List Pair) (len : ℕ) (x : Name) (q : ℕ) where
     pub passing_next : r ≡ false → Passing (i + 1)
     passing_next y =
         record {
-          top = skip_top u l x q (get_or s i z) (drop (i + 1) (take len s)) top_front (sym r-is ∙ y);
-          above = record { same = sym (ap (λ (w : List Pair). collect u l x (scanned u l w)) front ∙ skip_same u l x q (get_or s i z) (drop (i + 1) (take len s)) top_front (sym r-is ∙ y)) ∙ p.above.same };
+          top = skip_top u l x q (get_or s i z) (drop (i + 1) (take len s)) top_front (sym r_is ∙ y);
+          above = record { same = sym (ap (λ (w : List Pair). collect u l x (scanned u l w)) front ∙ skip_same u l x q (get_or s i z) (drop (i + 1) (take len s)) top_front (sym r_is ∙ y)) ∙ p.above.same };
         }
 
     pub passing_above : r ≡ true → Above u l (take len s) x i
     passing_above y = p.above
 
     pub passing_known : r ≡ true → x ≡ place_name u l q → Known (entries_of (table_of u l (get_or s i z).layer)) (get_or s i z).number x (q % 128)
-    passing_known y w = record { entry = λ b. own_entry u l x q (get_or s i z) (drop (i + 1) (take len s)) top_front (sym r-is ∙ y) w }
+    passing_known y w = record { entry = λ b. own_entry u l x q (get_or s i z) (drop (i + 1) (take len s)) top_front (sym r_is ∙ y) w }

@@ -66,7 +66,7 @@ unfolding seat_in
 seat_end zero ns x lo hi t h e = e
 seat_end (suc m) ns x lo hi t h e = sym (rw (le-ltb lo hi h) refl) ∙ e
 
-module _ (s : List ℕ) (x : Name) (lo hi mid : ℕ) (t : Seat) (inv : seat_in (length (nodes_of s)) (nodes_of s) x lo hi ≡ t) (lt : lo < hi) (w : hi ≤ count_of s) (mid-is : mid ≡ lo + (hi - lo) / 2) (o : Order) (q : o ≡ order_of x (key_of (node_at (nodes_of s) mid))) where
+module _ (s : List ℕ) (x : Name) (lo hi mid : ℕ) (t : Seat) (inv : seat_in (length (nodes_of s)) (nodes_of s) x lo hi ≡ t) (lt : lo < hi) (w : hi ≤ count_of s) (mid_is : mid ≡ lo + (hi - lo) / 2) (o : Order) (q : o ≡ order_of x (key_of (node_at (nodes_of s) mid))) where
   abbrev ns : List Node
   ns = nodes_of s
 
@@ -77,7 +77,7 @@ module _ (s : List ℕ) (x : Name) (lo hi mid : ℕ) (t : Seat) (inv : seat_in (
       go : (m : ℕ) → hi ≤ m → seat_in m ns x lo hi ≡ t → seat_by o mid (seat_in m ns x lo mid) (seat_in m ns x (suc mid) hi) ≡ t
       go zero h e = absurd (omega arith)
       go (suc m) h e =
-          let d : seat_in (suc m) ns x lo hi ≡ seat_by o mid (seat_in m ns x lo mid) (seat_in m ns x (suc mid) hi) = rw (lt-ltb lo hi lt, q, mid-is) refl in
+          let d : seat_in (suc m) ns x lo hi ≡ seat_by o mid (seat_in m ns x lo mid) (seat_in m ns x (suc mid) hi) = rw (lt-ltb lo hi lt, q, mid_is) refl in
           ap₂ (seat_by o mid) (seat_enough ns x (suc m) m lo mid (omega arith) (omega arith)) (seat_enough ns x (suc m) m (suc mid) hi (omega arith) (omega arith)) ∙ (sym d ∙ e)
 
   pub seat_before : o ≡ Before → seat_in (length (nodes_of s)) (nodes_of s) x lo mid ≡ t
@@ -93,7 +93,7 @@ module _ (s : List ℕ) (x : Name) (lo hi mid : ℕ) (t : Seat) (inv : seat_in (
   seat_after e = rw (add-one mid) (rw e at seat_step)
 
 -- the middle lies among the nodes
-module _ (s : List ℕ) (lo hi mid : ℕ) (lt : lo < hi) (w : hi ≤ count_of s) (mid-is : mid ≡ lo + (hi - lo) / 2) where
+module _ (s : List ℕ) (lo hi mid : ℕ) (lt : lo < hi) (w : hi ≤ count_of s) (mid_is : mid ≡ lo + (hi - lo) / 2) where
   pub middle_count : mid < count_of s
   middle_count = omega arith
 

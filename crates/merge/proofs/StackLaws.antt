@@ -85,32 +85,32 @@ module _ (u l : List ℕ) (s : List Pair) (z : Pair) (len : ℕ) (x : Name) wher
   unfolding scanned collect walk
   stack_full o i q g e = sym (rw (drop_of_length-le (take len s) {i = i} (simp length-take (omega arith))) refl) ∙ q
 
-  module _ (o : Stack) (i : ℕ) (q : Left o i) (g : length s ≡ 4) (h : i ≤ 4) (n : i ≡ 4 → ⊥) (e : i < len) (t : List ℕ) (w : ℕ) (t-is : t ≡ table_of u l w) (w-is : w ≡ (get_or s i z).layer) (r : Bool) (r-is : r ≡ is_walked t (get_or s i z).number) where
+  module _ (o : Stack) (i : ℕ) (q : Left o i) (g : length s ≡ 4) (h : i ≤ 4) (n : i ≡ 4 → ⊥) (e : i < len) (t : List ℕ) (w : ℕ) (t_is : t ≡ table_of u l w) (w_is : w ≡ (get_or s i z).layer) (r : Bool) (r_is : r ≡ is_walked t (get_or s i z).number) where
     abbrev d : ℕ
     d = (get_or s i z).number
 
     step : scanned u l (drop i (take len s)) ≡ cond (is_walked t d) (get_or s i z ∷ cond (ends_scan t d) [] (scanned u l (drop (i + 1) (take len s)))) []
     unfolding scanned
-    step = rw (drop-cons (take len s) i z (simp length-take (omega arith)), get_or-take len s i z e, t-is, w-is, add-one i) refl
+    step = rw (drop-cons (take len s) i z (simp length-take (omega arith)), get_or-take len s i z e, t_is, w_is, add-one i) refl
 
     pub stack_stop : r ≡ false → o ≡ merged_stack u l (take len s) x
     unfolding collect walk
-    stack_stop y = sym (rw (step, ← r-is, y) refl) ∙ q
+    stack_stop y = sym (rw (step, ← r_is, y) refl) ∙ q
 
-    module _ (y : r ≡ true) (f : Seen) (f-is : f ≡ seen_of t d x) (o' : Stack) (o_is : o' ≡ with_seen o (get_or s i z).layer f) (b : Bool) (b-is : b ≡ ends_seen f) where
+    module _ (y : r ≡ true) (f : Seen) (f_is : f ≡ seen_of t d x) (o' : Stack) (o_is : o' ≡ with_seen o (get_or s i z).layer f) (b : Bool) (b_is : b ≡ ends_seen f) where
       turn : cond b o' (walk o' (collect u l x (cond (ends_scan t d) [] (scanned u l (drop (i + 1) (take len s)))))) ≡ merged_stack u l (take len s) x
       unfolding collect
       turn =
-          rw (b-is, o_is, f-is, t-is, w-is)
+          rw (b_is, o_is, f_is, t_is, w_is)
           (sym (walk_seen o (get_or s i z).layer (seen_of (table_of u l (get_or s i z).layer) d x) (collect u l x (cond (ends_scan (table_of u l (get_or s i z).layer) d) [] (scanned u l (drop (i + 1) (take len s))))))
-          ∙ (sym (rw (step, ← r-is, y, t-is, w-is) refl) ∙ q))
+          ∙ (sym (rw (step, ← r_is, y, t_is, w_is) refl) ∙ q))
 
       pub stack_merged : b ≡ true → o' ≡ merged_stack u l (take len s) x
       stack_merged v = sym (rw v refl) ∙ turn
 
-      module _ (v : b ≡ false) (c : Bool) (c-is : c ≡ ends_scan t d) where
+      module _ (v : b ≡ false) (c : Bool) (c_is : c ≡ ends_scan t d) where
         on : walk o' (collect u l x (cond c [] (scanned u l (drop (i + 1) (take len s))))) ≡ merged_stack u l (take len s) x
-        on = rw c-is (sym (rw v refl) ∙ turn)
+        on = rw c_is (sym (rw v refl) ∙ turn)
 
         pub stack_scanned : c ≡ true → o' ≡ merged_stack u l (take len s) x
         unfolding collect walk
@@ -119,7 +119,7 @@ module _ (u l : List ℕ) (s : List Pair) (z : Pair) (len : ℕ) (x : Name) wher
         pub stack_next : c ≡ false → Left o' (i + 1)
         stack_next a = rw a at on
 
-pub ruleset stack-walk = (stack_end, stack_full, stack_stop, stack_merged, stack_scanned, stack_next)
+pub ruleset stack_walk = (stack_end, stack_full, stack_stop, stack_merged, stack_scanned, stack_next)
 
 pub none_length : (o : Stack) → o ≡ no_stack → o.length ≤ 0
 none_length o h = let e : o.length ≡ 0 = rw h refl in omega arith

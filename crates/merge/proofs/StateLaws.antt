@@ -192,4 +192,4 @@ module _ (ns : List Node) (x : Name) (c j : ℕ) (s : Spot) (n : length ns ≡ c
     unfolding spot_step
     spot_after e = rw (add-one j) (spot_by After e)
 
-pub ruleset spot-walk = (spot_end, spot_before, spot_same, spot_after)
+pub ruleset spot_walk = (spot_end, spot_before, spot_same, spot_after)

@@ -45,13 +45,13 @@ fn answer_lines(call: &str, answer: &Answer) -> Vec<String> {
 #[test]
 fn printed_cases_are_read_by_replay() {
     let Some(sides) = sides() else { return };
-    let replay = PathBuf::from(concat!(env!("CARGO_MANIFEST_DIR"), "/../../target/bin/replay"));
+    let replay = PathBuf::from(concat!(env!("CARGO_MANIFEST_DIR"), "/../../crates/replay/out/replay"));
     if !replay.exists() || !cfg!(target_arch = "x86_64") {
-        println!("skipped: the program replay is not there for this machine: make it with `rt check replay`");
+        println!("skipped: the program replay is not there for this machine: make it with `tools/program replay`");
         return;
     }
     if replayed(&replay, "layers 1 0\nlayer 0\nrecord 1 directory 0755\nimport\ncreate 1 a 0644 0\n").len() != 2 {
-        println!("skipped: the program replay is older than the calls that write: make it anew with `rt check replay`");
+        println!("skipped: the program replay is older than the calls that write: make it anew with `tools/program replay`");
         return;
     }
     let plan = Plan { cases: 0, seed: 11, time: None, calls: CALLS.to_vec() };

@@ -114,15 +114,18 @@ fn a_wrong_line_is_told_with_what_to_write() {
     assert_eq!(told("byte 1 2 3"), "line 1: `3` is one word too many: write byte OFFSET VALUE");
 }
 
+/// Where `tools/program encode` leaves the project's encoder.
+const ENCODE: &str = "crates/encode/out/encode";
+
 /// What the project's encoder makes of a table's lines.
 fn encoded(lines: &str) -> Vec<u8> {
-    let program = common::path("target/bin/encode");
-    let mut child = Command::new(program).stdin(Stdio::piped()).stdout(Stdio::piped()).spawn().expect("target/bin/encode starts");
+    let program = common::path(ENCODE);
+    let mut child = Command::new(program).stdin(Stdio::piped()).stdout(Stdio::piped()).spawn().expect("the encoder starts");
     child.stdin.take().expect("its input").write_all(lines.as_bytes()).expect("it reads the lines");
     child.wait_with_output().expect("it ends").stdout
 }
 
-/// The two encoders agree on every table of the replayed scripts, where the project's is built (`rt check encode`).
+/// The two encoders agree on every table of the replayed scripts, where the project's is built (`tools/program encode`).
 #[test]
 fn both_encoders_make_the_same_bytes() {
     let scripts = ["crates/replay/stdin", "crates/merge_cases/stdin", "crates/layers_cases/stdin"];
@@ -132,8 +135,8 @@ fn both_encoders_make_the_same_bytes() {
         let t = table(lines);
         assert_eq!(table(&text::print(&t)), t);
     }
-    if !common::path("target/bin/encode").exists() {
-        eprintln!("skipped: the tables against target/bin/encode, which `rt check encode` builds");
+    if !common::path(ENCODE).exists() {
+        eprintln!("skipped: the tables against {ENCODE}, which `tools/program encode` builds");
         return;
     }
     for lines in &tables {

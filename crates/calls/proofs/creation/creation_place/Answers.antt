@@ -1,6 +1,6 @@
 use Rattle.calls.proofs.TestLaws.{tests}
-use Rattle.calls.proofs.NumberTests.{number-tests}
-use Rattle.calls.proofs.WritingTests.{more-tests}
+use Rattle.calls.proofs.NumberTests.{number_tests}
+use Rattle.calls.proofs.WritingTests.{more_tests}
 use Rattle.calls.proofs.CreationLaws.{parent_found}
 use Rattle.calls.specs.Creation.{creation_before}
 use borrow.Author.Rules.{rules}
@@ -8,24 +8,24 @@ use Rattle.calls.proofs.creation.creation_place.Goals as goal
 
 pub returns-then-not-lengths_fit : goal.returns-then-not-lengths_fit
 unfolding creation_before
-returns-then-not-lengths_fit c = search (tests, number-tests, more-tests, rules) depth 12
+returns-then-not-lengths_fit c = search (tests, number_tests, more_tests, rules) depth 12
 
 pub returns-then-malformed : goal.returns-then-malformed
 unfolding creation_before
-returns-then-malformed c = search (tests, number-tests, more-tests, rules) depth 12
+returns-then-malformed c = search (tests, number_tests, more_tests, rules) depth 12
 
 pub returns-then-bad : goal.returns-then-bad
 unfolding creation_before
-returns-then-bad c = search (tests, number-tests, more-tests, rules) depth 12
+returns-then-bad c = search (tests, number_tests, more_tests, rules) depth 12
 
 pub returns-in_default : goal.returns-in_default
 unfolding creation_before
-returns-in_default c = search (tests, number-tests, more-tests, rules) depth 12
+returns-in_default c = search (tests, number_tests, more_tests, rules) depth 12
 
 pub returns-then-upper-ne8192 : goal.returns-then-upper-ne8192
 unfolding creation_before
-returns-then-upper-ne8192 c = search (tests, number-tests, more-tests, rules) depth 12
+returns-then-upper-ne8192 c = search (tests, number_tests, more_tests, rules) depth 12
 
 pub returns : goal.returns
 unfolding creation_before
-returns c = search (tests, number-tests, more-tests, parent_found, rules) depth 12 fits 8000
+returns c = search (tests, number_tests, more_tests, parent_found, rules) depth 12 fits 8000

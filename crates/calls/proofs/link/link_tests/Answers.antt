@@ -1,5 +1,5 @@
 use Rattle.calls.proofs.TestLaws.{tests}
-use Rattle.calls.proofs.WritingTests.{more-tests}
+use Rattle.calls.proofs.WritingTests.{more_tests}
 use Rattle.calls.proofs.LinkLaws.{room_for_link}
 use Rattle.calls.specs.Link.{link_tests}
 use borrow.Author.Rules.{rules}
@@ -7,20 +7,20 @@ use Rattle.calls.proofs.link.link_tests.Goals as goal
 
 pub returns-then-is_live_name : goal.returns-then-is_live_name
 unfolding link_tests
-returns-then-is_live_name c = search (tests, more-tests, rules) depth 20
+returns-then-is_live_name c = search (tests, more_tests, rules) depth 20
 
 pub returns-then-x-gt28 : goal.returns-then-x-gt28
 unfolding link_tests
-returns-then-x-gt28 c = search (tests, more-tests, rules) depth 20
+returns-then-x-gt28 c = search (tests, more_tests, rules) depth 20
 
 pub returns-then-no_place : goal.returns-then-no_place
 unfolding link_tests
-returns-then-no_place c = search (tests, more-tests, rules) depth 20
+returns-then-no_place c = search (tests, more_tests, rules) depth 20
 
 pub returns-then-overfull : goal.returns-then-overfull
 unfolding link_tests
-returns-then-overfull c = search (tests, more-tests, room_for_link, rules) depth 20
+returns-then-overfull c = search (tests, more_tests, room_for_link, rules) depth 20
 
 pub returns : goal.returns
 unfolding link_tests
-returns c = search (tests, more-tests, room_for_link, rules) depth 20
+returns c = search (tests, more_tests, room_for_link, rules) depth 20

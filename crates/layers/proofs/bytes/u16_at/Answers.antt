@@ -1,12 +1,12 @@
-use Rattle.layers.proofs.Numbers.{number-walk}
+use Rattle.layers.proofs.Numbers.{number_walk}
 use borrow.Author.Rules.{rules}
 use Rattle.layers.proofs.bytes.u16_at.Goals as goal
 
 pub returns-then-t-lt2 : goal.returns-then-t-lt2
-returns-then-t-lt2 c = search (number-walk, rules)
+returns-then-t-lt2 c = search (number_walk, rules)
 
 pub returns-then-t-a : goal.returns-then-t-a
-returns-then-t-a c = search (number-walk, rules)
+returns-then-t-a c = search (number_walk, rules)
 
 pub returns : goal.returns
-returns c = search (number-walk, rules)
+returns c = search (number_walk, rules)

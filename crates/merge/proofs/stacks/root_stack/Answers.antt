@@ -1,5 +1,5 @@
 use Rattle.merge.proofs.StackLaws.{none_length}
-use Rattle.merge.proofs.FreshLaws.{roots_start, roots-walk}
+use Rattle.merge.proofs.FreshLaws.{roots_start, roots_walk}
 use borrow.Author.Rules.{rules}
 use Rattle.merge.proofs.stacks.root_stack.Goals as goal
 
@@ -7,10 +7,10 @@ pub loop-k-init : goal.loop-k-init
 loop-k-init c = search (roots_start, none_length, rules)
 
 pub loop-k-preserved-then-t-eq8192 : goal.loop-k-preserved-then-t-eq8192
-loop-k-preserved-then-t-eq8192 c = search (roots-walk, rules)
+loop-k-preserved-then-t-eq8192 c = search (roots_walk, rules)
 
 pub loop-k-preserved : goal.loop-k-preserved
-loop-k-preserved c = search (roots-walk, rules)
+loop-k-preserved c = search (roots_walk, rules)
 
 pub returns : goal.returns
-returns c = search (roots-walk, rules)
+returns c = search (roots_walk, rules)
