@@ -1,4 +1,4 @@
-// The calls, each one total function of the lent memory, and the exported C functions.
+// The calls, each one total function of the lent memory, and the same as C has them.
 #![tactic(auto)]
 
 pub mod copy_up;
