@@ -1,34 +1,18 @@
 -- What is made in the upper layer: one record, and the missing directories of a path. Assumes nothing.
-use mathlib.Core.Path.{◌≡◌, refl, sym, ap, ◌∙◌}
-use Prim.Native.Nat.{ℕ, zero, suc, ◌-◌, ◌<◌}
+use mathlib.Core.Path.{◌≡◌, refl, ap, ◌∙◌}
+use Prim.Native.Nat.{ℕ, zero, suc, ◌-◌}
 use native.Mathlib.Omega.{arith}
-use native.Mathlib.Nat.{sub-zero}
 use mathlib.Core.Bool.{Bool, true, false}
 use mathlib.Core.List.{List}
-use lib.ListN.{length, take, drop}
-use lib.Seq.{take_all}
-use Rattle.layers.specs.Names.{Name}
 use Rattle.layers.specs.declared.items.Record.{Record}
 use Rattle.merge.specs.Nodes.{nodes_of, node_at}
 use Rattle.merge.specs.Changes.{put_bytes}
 use Rattle.merge.specs.Stacks.{pair}
 use Rattle.merge.specs.declared.stacks.Pair.{Pair}
 use Rattle.merge.specs.declared.node.Node.{Node}
-use Rattle.calls.specs.Parents.{top_of, place_numbered, numbered, is_directory_node}
-use Rattle.calls.specs.Upper.{Up, up, in_upper, new_record, add_new, top_record, added_for, made_directory, made_upper, made_path, copied_file, copied_up}
+use Rattle.calls.specs.Parents.{place_numbered, is_directory_node}
+use Rattle.calls.specs.Upper.{Up, up, in_upper, new_record, top_record, added_for, made_directory, made_upper, made_path, copied_file, copied_up}
 use Rattle.calls.proofs.UpperLaws.{up_is}
-
--- ---- a record under a name that 28 bytes hold
-module _ (d : ℕ) (x : Name) (m : ℕ) (r : Record) (t t' : List ℕ) where
-  pub named_whole : 28 < m → length x ≡ 28 → t' ≡ add_new d x r t → t' ≡ add_new d (take m x) r t
-  named_whole h k e = e ∙ ap (λ (y : Name). add_new d y r t) (sym (take_all m x (omega arith)))
-
-  pub named_cut : t' ≡ add_new d (take (m - 0) (drop 0 x)) r t → t' ≡ add_new d (take m x) r t
-  named_cut e = e ∙ ap (λ (i : ℕ). add_new d (take i x) r t) (sub-zero m)
-
--- below the parent's upper record, under the node's name
-pub added_for_lem : (t s : List ℕ) (k : ℕ) (r : Record) (n : Node) (w : ℕ) (p : Node) (d : Pair) (v : ℕ) (t' : List ℕ) → n ≡ node_at (nodes_of s) k → w ≡ n.parent → p ≡ numbered s w → d ≡ top_of p → v ≡ n.length → t' ≡ add_new d.number (take v n.name) r t → t' ≡ added_for k r (up t s)
-added_for_lem t s k r n w p d v t' a b c e f g = g ∙ rw (f, e, c, b, a) refl
 
 -- ---- a node made in the upper layer: with a record like its own, and with that record put on its stack
 module _ (like : Record → Record) (put : Node → Pair → Node) (t l s : List ℕ) (k : ℕ) (n : Node) (n_is : n ≡ node_at (nodes_of s) k) where

@@ -1,4 +1,6 @@
 -- The counts of a directory's children, as the code adds them up. Assumes nothing.
+use Rattle.std.specs.Prelude.{Result, Ok}
+use Rattle.calls.specs.declared.refusal.Refusal.{Refusal}
 use mathlib.Core.Path.{◌≡◌, refl, sym, ap, ◌∙◌}
 use Prim.Native.Nat.{ℕ, ◌+◌, ◌≤◌, ◌<◌}
 use native.Mathlib.Omega.{arith}
@@ -15,8 +17,6 @@ use Rattle.merge.specs.declared.node.Node.{Node}
 use Rattle.merge.proofs.StateLaws.{length_nodes}
 use Rattle.calls.specs.Refusal.{after_tests, passed}
 use Rattle.calls.specs.Parents.{is_white, is_live, place_numbered, load_tests, loaded_state}
-use Rattle.calls.specs.declared.refusal.Answer.{Answer}
-use Rattle.calls.specs.declared.refusal.Answer.TheVariants.{Fine}
 use Rattle.calls.proofs.LoadingLaws.{loaded_is, answered_behind, left_behind}
 use Rattle.calls.specs.Count.{child_counts, weight, count_before, count_spec}
 
@@ -89,16 +89,16 @@ module _ (s : List ℕ) (x c m n j : ℕ) (q : c ≡ count_of s) where
       omega arith
 
 -- ---- the counts, behind the load, where no test is left
-module _ (u l s : List ℕ) (x : ℕ) (f : Answer) (q : f ≡ after_tests (count_before u l s x) (Fine (place_numbered s x))) (k : ℕ) (h : f ≡ Fine k)
-    (a : Answer) (g : a ≡ after_tests (load_tests u l s k) (Fine k)) (s' : List ℕ) (e : s' ≡ load_bytes u l s k) (j : ℕ) (t : a ≡ Fine j) where
+module _ (u l s : List ℕ) (x : ℕ) (f : Result ℕ Refusal) (q : f ≡ after_tests (count_before u l s x) (Ok (place_numbered s x))) (k : ℕ) (h : f ≡ Ok k)
+    (a : Result ℕ Refusal) (g : a ≡ after_tests (load_tests u l s k) (Ok k)) (s' : List ℕ) (e : s' ≡ load_bytes u l s k) (j : ℕ) (t : a ≡ Ok j) where
   loaded : s' ≡ loaded_state u l s x
   loaded = loaded_is u l s x (count_before u l s x) [] f q k h s' e
 
-  pub counts_answered : (v : ℕ) → v ≡ child_counts (nodes_of s') x → Fine v ≡ (count_spec u l s x).answer
+  pub counts_answered : (v : ℕ) → v ≡ child_counts (nodes_of s') x → Ok v ≡ (count_spec u l s x).answer
   unfolding after_tests
   counts_answered v d =
-      answered_behind u l s x (count_before u l s x) [] f q k h a g j t (child_counts (nodes_of (loaded_state u l s x)) x) (Fine v)
-      (ap Fine (d ∙ rw loaded refl))
+      answered_behind u l s x (count_before u l s x) [] f q k h a g j t (child_counts (nodes_of (loaded_state u l s x)) x) (Ok v)
+      (ap Ok (d ∙ rw loaded refl))
 
   pub counts_left : s' ≡ (count_spec u l s x).state
   unfolding passed

@@ -1,38 +1,42 @@
 -- The record that a creation makes, and mknod's kinds. Assumes nothing.
-use mathlib.Core.Path.{◌≡◌, refl, sym, ap, ◌∙◌}
-use Prim.Native.Nat.{ℕ, ◌-◌, ◌<◌}
+use Rattle.std.specs.Prelude.{Option, Some, None, Result, Ok, Err, OkIff}
+use Rattle.std.specs.Result.{result_ok}
+use mathlib.Core.Path.{◌≡◌, refl, sym, ◌∙◌}
+use Prim.Native.Nat.{ℕ, ◌-◌, ◌≤◌, ◌<◌}
 use native.Mathlib.Omega.{arith}
 use mathlib.Core.Bool.{Bool, true, false}
-use lib.Bits.{bit_and, and_zero_r, and_le_r}
-use borrow.Author.Tests.{ne_eqb}
-use Rattle.layers.specs.Kinds.{kind_number, kind_of}
-use Rattle.layers.specs.declared.items.Record.{Record}
+use lib.Bits.{bit_and}
+use lib.Dec.{ltb}
+use borrow.Author.Tests.{ne_eqb, ltb-true, ltb-false}
+use Rattle.layers.specs.Kinds.{kind_of}
 use Rattle.layers.specs.declared.kinds.Kind.{Kind}
-use Rattle.layers.specs.declared.kinds.Kind.TheVariants.{NoKind}
 use Rattle.calls.specs.Creation.{made_record, bad_mode, not_made, bad_node, is_device, device_of}
-
-pub mask_gone : (p m : ℕ) → 4095 < m → 0 ≡ bit_and p (4095 - m)
-mask_gone p m h = let z : 4095 - m ≡ 0 = omega arith in sym (ap (bit_and p) z ∙ and_zero_r p)
-
-pub mask_fits : (p m : ℕ) → bit_and p (4095 - m) < 65536
-mask_fits p m = omega (arith, and_le_r p (4095 - m))
 
 module _ (kind permissions umask device content m : ℕ) where
   pub record_made : m ≡ bit_and permissions (4095 - umask) → record { number = 0; kind = kind; opaque = 0; mark = 0; permissions = m; links = 0; device = device; size = 0; content = content } ≡ made_record kind permissions umask device content
   unfolding made_record
   record_made h = rw h refl
 
-  -- mknod's record
-  pub node_made : (r : Record) (k : Kind) (d : ℕ) → k ≡ kind_of kind → m ≡ kind_number k → d ≡ device_of kind device → r ≡ made_record m permissions umask d content → r ≡ made_record (kind_number (kind_of kind)) permissions umask (device_of kind device) content
-  node_made r k d e g h i = i ∙ rw (g, e, h) refl
-
-pub no_such_kind : (n : ℕ) → 255 < n → NoKind ≡ kind_of n
+pub no_such_kind : (n : ℕ) → 255 < n → None ≡ kind_of n
 unfolding kind_of
 no_such_kind n h =
     rw (ne_eqb n 1 (λ e. omega arith), ne_eqb n 2 (λ e. omega arith), ne_eqb n 4 (λ e. omega arith), ne_eqb n 6 (λ e. omega arith), ne_eqb n 8 (λ e. omega arith), ne_eqb n 10 (λ e. omega arith), ne_eqb n 12 (λ e. omega arith))
     refl
 
-module _ (n : ℕ) (k : Kind) (q : k ≡ kind_of n) (b : Bool) where
+-- a number that fits a byte or not, as the library tells it
+module _ {E : Type 0} (r : Result ℕ E) (o : Option ℕ) (n : ℕ) (r_is : OkIff r (n < 256) n) (o_is : o ≡ result_ok r) where
+  pub byte_none : o ≡ None → 255 < n
+  byte_none h = go r r_is (sym o_is ∙ h)
+    where
+      go : (r : Result ℕ E) → OkIff r (n < 256) n → result_ok r ≡ None → 255 < n
+      go (Ok x) i e = absurd (let z : ◌≡◌ {A = Option ℕ} (Some x) None = e in cc)
+      go (Err x) i e = go_over (ltb n 256) refl
+        where
+          go_over : (b : Bool) → ltb n 256 ≡ b → 255 < n
+          go_over true q = absurd (i (ltb-true n 256 q))
+          go_over false q = let y : 256 ≤ n = ltb-false n 256 q in omega arith
+
+module _ (n : ℕ) (k : Option Kind) (q : k ≡ kind_of n) (b : Bool) where
   module _ (permissions umask : ℕ) (e : b ≡ not_made k) where
     pub bad_kind : b ≡ true → true ≡ bad_node n permissions umask
     unfolding bad_node

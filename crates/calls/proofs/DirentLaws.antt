@@ -1,19 +1,18 @@
 -- The bytes of an entry of a listing, as the code writes them, and how many they are. Assumes nothing.
+use Rattle.std.specs.Prelude.{Option, Some, None, SomeIff}
 use mathlib.Core.Path.{◌≡◌, refl, ap, ◌∙◌}
-use mathlib.Core.Bool.{true, false}
+use mathlib.Core.Bool.{Bool, true, false}
 use Prim.Native.Nat.{ℕ, zero, suc, ◌+◌, ◌-◌, ◌%◌, ◌≤◌, ◌<◌}
 use native.Mathlib.Omega.{arith}
 use mathlib.Core.List.{List, ◌∷◌, ◌++◌, append_assoc}
-use lib.Dec.{leb}
+use lib.Dec.{leb, ltb}
 use lib.ListN.{length, take, replicate, length-append, length-replicate}
-use borrow.Author.Tests.{le-leb, lt-leb}
+use borrow.Author.Tests.{le-leb, lt-leb, ltb-true, ltb-false}
 use Rattle.layers.specs.Bytes.{least, over, le_bytes, laid}
 use Rattle.layers.specs.Names.{Name}
 use Rattle.layers.proofs.Numbers.{le_low, length_le}
 use Rattle.layers.proofs.ItemLaws.{two_laid, laid_next}
-use Rattle.layers.proofs.Least.{least_right}
 use Rattle.calls.specs.Dirents.{dirent, padding, dirent_size, dirent_bytes, put_answer, put_dirent}
-use Rattle.calls.specs.declared.dirent.Put.TheVariants.{Next, Full}
 
 -- ---- the steps by which the code writes an entry
 
@@ -53,45 +52,34 @@ module _ (t t₁ t₂ t₃ : List ℕ) (a inode index kind : ℕ) (x : Name) (p 
 
 -- ---- whether it fits
 
+-- a difference, as the library tells it
+module _ (r : Option ℕ) (a b : ℕ) (r_is : SomeIff r (b ≤ a) (a - b)) where
+  pub none_left : r ≡ None → a < b
+  none_left h = go (rw h at r_is) (ltb a b) refl
+    where
+      go : (b ≤ a → ⊥) → (c : Bool) → ltb a b ≡ c → a < b
+      go n true e = ltb-true a b e
+      go n false e = absurd (n (ltb-false a b e))
+
+  pub some_left : (k : ℕ) → r ≡ Some k → (b ≤ a) × (k ≡ a - b)
+  some_left k h = rw h at r_is
+
 module _ (limit : ℕ) (t : List ℕ) (at index inode kind : ℕ) (x : Name) (e p : ℕ) (e_is : e ≡ least limit (length t)) (p_is : p ≡ padding (length x)) where
   short : e < at + (24 + length x + padding (length x)) → leb (at + (24 + length x + padding (length x))) (least limit (length t)) ≡ false
   short h = lt-leb (at + (24 + length x + padding (length x))) (least limit (length t)) (omega arith)
 
-  full_by : e < at + (24 + length x + padding (length x)) → (Full ≡ put_answer limit t at (dirent inode kind x)) × (t ≡ put_dirent limit t at index (dirent inode kind x))
+  pub full_by : e < at + (24 + length x + padding (length x)) → (None ≡ put_answer limit t at (dirent inode kind x)) × (t ≡ put_dirent limit t at index (dirent inode kind x))
   unfolding put_answer put_dirent dirent_size
   full_by h = (rw (short h) refl, rw (short h) refl)
 
-  pub full_at : e < at → Full ≡ put_answer limit t at (dirent inode kind x)
-  full_at h = (full_by (omega arith)).0
-
-  pub kept_at : e < at → t ≡ put_dirent limit t at index (dirent inode kind x)
-  kept_at h = (full_by (omega arith)).1
-
-  pub full_name : at ≤ e → e - at < length x → Full ≡ put_answer limit t at (dirent inode kind x)
-  full_name h g = (full_by (omega arith)).0
-
-  pub kept_name : at ≤ e → e - at < length x → t ≡ put_dirent limit t at index (dirent inode kind x)
-  kept_name h g = (full_by (omega arith)).1
-
-  pub full_rest : at ≤ e → length x ≤ e - at → e - at - length x < 24 + p → Full ≡ put_answer limit t at (dirent inode kind x)
-  full_rest h g l = (full_by (omega arith)).0
-
-  pub kept_rest : at ≤ e → length x ≤ e - at → e - at - length x < 24 + p → t ≡ put_dirent limit t at index (dirent inode kind x)
-  kept_rest h g l = (full_by (omega arith)).1
-
   module _ (h : at ≤ e) (g : length x ≤ e - at) (l : 24 + p ≤ e - at - length x) where
-    pub dirent_fits : at + 24 + length x + padding (length x) ≤ length t
-    dirent_fits = let b : least limit (length t) ≤ length t = least_right limit (length t) in omega arith
-
     there : leb (at + (24 + length x + padding (length x))) (least limit (length t)) ≡ true
     there = le-leb (at + (24 + length x + padding (length x))) (least limit (length t)) (omega arith)
 
-    pub dirent_next : Next (at + 24 + length x + p) ≡ put_answer limit t at (dirent inode kind x)
+    pub dirent_next : Some (at + 24 + length x + p) ≡ put_answer limit t at (dirent inode kind x)
     unfolding put_answer dirent_size
-    dirent_next = rw there (ap Next (omega arith))
+    dirent_next = rw there (ap Some (omega arith))
 
     pub dirent_written : (u : List ℕ) → u ≡ over t at (dirent_bytes index (dirent inode kind x)) → u ≡ put_dirent limit t at index (dirent inode kind x)
     unfolding put_dirent dirent_size
     dirent_written u q = rw there q
-
-pub ruleset not_fitting = (full_at, full_name, full_rest, kept_at, kept_name, kept_rest)

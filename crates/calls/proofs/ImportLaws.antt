@@ -1,15 +1,15 @@
 -- Import, from what the code's tests showed. Assumes nothing.
+use Rattle.std.specs.Prelude.{Result, Ok, Err}
 use mathlib.Core.Path.{◌≡◌, refl, sym, ap, ◌∙◌}
-use Prim.Native.Nat.{ℕ, ◌+◌, ◌≤◌, ◌<◌}
+use Prim.Native.Nat.{ℕ, zero, suc, ◌+◌, ◌≤◌, ◌<◌}
 use native.Mathlib.Omega.{arith}
-use native.Mathlib.Numerals.{add-one}
-use mathlib.Core.Bool.{Bool, true, false, not}
-use mathlib.Core.List.{List, [], ◌∷◌, ◌++◌, append_assoc, append-nil}
-use lib.Dec.{eqb}
-use lib.ListN.{length, drop, get_or, set, replicate, length-replicate, replicate-append-replicate, drop_of_length-le}
-use lib.Seq.{drop-cons, set-append_seam}
-use borrow.Author.Tests.{eq-eqb, ne_eqb, eqb-true}
+use mathlib.Core.Bool.{Bool, true, false, not, cond}
+use mathlib.Core.List.{List, [], ◌∷◌}
+use lib.Dec.{eqb, ltb}
+use lib.ListN.{length, replicate}
+use borrow.Author.Tests.{eqb-true, ltb-true, ltb-false}
 use Rattle.layers.specs.Rules.{valid_test}
+use Rattle.merge.specs.Tables.{table_of}
 use Rattle.merge.specs.Heads.{with_head}
 use Rattle.merge.specs.Changes.{put_in_bytes}
 use Rattle.merge.specs.Stacks.{stack_from}
@@ -22,38 +22,55 @@ use Rattle.calls.specs.Refusal.{after_tests, passed}
 use Rattle.calls.specs.Lengths.{state_fits, lengths_test}
 use Rattle.calls.specs.Parents.{load_tests}
 use Rattle.merge.specs.Root as root
-use Rattle.calls.specs.Import.{broken_layer, import_tests, blank, wiped, root_node, rooted, root_tests, import_spec}
+use Rattle.calls.specs.Import.{no_layer, broken_layer, import_tests, blank, wiped, root_node, rooted, root_tests, import_spec}
 use Rattle.calls.specs.declared.refusal.Refusal.{Refusal}
-use Rattle.calls.specs.declared.refusal.Answer.{Answer}
-use Rattle.calls.specs.declared.refusal.Answer.TheVariants.{Fine, Refused}
+use Rattle.calls.specs.declared.refusal.Refusal.TheVariants.{Einval}
+use Rattle.layers.proofs.EveryLaws.{no_true}
 use Rattle.calls.proofs.TestLaws.{passed_append, fine_passed, refused_failed, stops, goes_on}
 
 -- ---- a layer
-module _ (t w : List ℕ) (e : t ≡ w) where
-  pub no_bytes : length t ≡ 0 → false ≡ broken_layer w
+module _ (w : List ℕ) where
+  pub no_bytes : w ≡ [] → false ≡ broken_layer w
   unfolding broken_layer
-  no_bytes h = rw (← e, eq-eqb (length t) 0 h) refl
+  no_bytes h = rw h refl
 
-  pub rules_decide : (length t ≡ 0 → ⊥) → (b : Bool) → b ≡ valid_test t → not b ≡ broken_layer w
+  pub rules_decide : (t : List ℕ) → t ≡ w → length w ≡ 8192 → (b : Bool) → b ≡ valid_test t → not b ≡ broken_layer w
   unfolding broken_layer
-  rules_decide h b g = rw (← e, ne_eqb (length t) 0 h, g) refl
+  rules_decide t e h b g = rw (h, ← e, g) refl
 
--- ---- zeros, one byte after another
-pub zero_start : (s : List ℕ) → s ≡ replicate 0 0 ++ drop 0 s
-zero_start s = refl
+module _ (u l : List ℕ) (k : ℕ) (b : Bool) where
+  pub broken_so_far : ((i : ℕ) → i < k → broken_layer (table_of u l i) ≡ false) → b ≡ broken_layer (table_of u l k) → b ≡ false → (i : ℕ) → i < k + 1 → broken_layer (table_of u l i) ≡ false
+  broken_so_far h q f i m = go (ltb i k) refl
+    where
+      go : (c : Bool) → ltb i k ≡ c → broken_layer (table_of u l i) ≡ false
+      go true e = h i (ltb-true i k e)
+      go false e = let z : k ≤ i = ltb-false i k e in let y : i ≡ k = omega arith in ap (λ (j : ℕ). broken_layer (table_of u l j)) y ∙ (sym q ∙ f)
 
-pub zero_next : (t t₀ : List ℕ) (i : ℕ) → t ≡ replicate i 0 ++ drop i t₀ → length t ≡ length t₀ → i < length t → set t i 0 ≡ replicate (i + 1) 0 ++ drop (i + 1) t₀
-zero_next t t₀ i e k h =
-    let n : length (replicate {A = ℕ} i 0) ≡ i = length-replicate i 0 in
-    let d : drop i t₀ ≡ get_or t₀ i 0 ∷ drop (i + 1) t₀ = rw (add-one i) (drop-cons t₀ i 0 (omega arith)) in
-    let y : set (replicate i 0 ++ (get_or t₀ i 0 ∷ drop (i + 1) t₀)) (length (replicate {A = ℕ} i 0)) 0 ≡ replicate i 0 ++ (0 ∷ drop (i + 1) t₀) = set-append_seam (replicate i 0) (get_or t₀ i 0) (drop (i + 1) t₀) 0 in
-    (ap (λ (x : List ℕ). set x i 0) (e ∙ ap (λ (x : List ℕ). replicate i 0 ++ x) d) ∙ rw n at y)
-    ∙ (sym (append_assoc (replicate i 0) (0 ∷ []) (drop (i + 1) t₀)) ∙ ap (λ (x : List ℕ). x ++ drop (i + 1) t₀) (replicate-append-replicate i 1 0))
+  pub broken_at : (s : List ℕ) → b ≡ broken_layer (table_of u l k) → b ≡ true → k < 4 → Err Einval ≡ after_tests (import_tests u l s) (Ok 0)
+  unfolding import_tests after_tests
+  broken_at s q t h = go (not (lengths_test s u l)) (no_layer u l) (broken_layer (table_of u l 0)) (broken_layer (table_of u l 1)) (broken_layer (table_of u l 2)) (broken_layer (table_of u l 3)) k h refl refl refl refl (sym q ∙ t)
+    where
+      one_of : (a b c d e f : Bool) → Result ℕ Refusal
+      one_of a b c d e f = cond a (Err Einval) (cond b (Err Einval) (cond c (Err Einval) (cond d (Err Einval) (cond e (Err Einval) (cond f (Err Einval) (Ok 0))))))
 
-pub zero_end : (t t₀ : List ℕ) (i : ℕ) → t ≡ replicate i 0 ++ drop i t₀ → length t ≡ length t₀ → i ≤ length t₀ → length t ≤ i → t ≡ replicate (length t₀) 0
-zero_end t t₀ i e k a b =
-    let n : i ≡ length t₀ = omega arith in
-    e ∙ (rw (drop_of_length-le t₀ {i = i} (omega arith)) (append-nil (replicate i 0)) ∙ ap (λ (m : ℕ). replicate m 0) n)
+      go : (a b c d e f : Bool) (k : ℕ) → k < 4 → broken_layer (table_of u l 0) ≡ c → broken_layer (table_of u l 1) ≡ d → broken_layer (table_of u l 2) ≡ e → broken_layer (table_of u l 3) ≡ f → broken_layer (table_of u l k) ≡ true → Err Einval ≡ one_of a b c d e f
+      go true b c d e f k m p q r s t = refl
+      go false true c d e f k m p q r s t = refl
+      go false false true d e f k m p q r s t = refl
+      go false false false true e f k m p q r s t = refl
+      go false false false false true f k m p q r s t = refl
+      go false false false false false true k m p q r s t = refl
+      go false false false false false false zero m p q r s t = no_true (sym p ∙ t)
+      go false false false false false false (suc zero) m p q r s t = no_true (sym q ∙ t)
+      go false false false false false false (suc (suc zero)) m p q r s t = no_true (sym r ∙ t)
+      go false false false false false false (suc (suc (suc zero))) m p q r s t = no_true (sym s ∙ t)
+      go false false false false false false (suc (suc (suc (suc k)))) m p q r s t = absurd (omega arith)
+
+  pub none_broken : (s : List ℕ) → ((i : ℕ) → i < k → broken_layer (table_of u l i) ≡ false) → 4 ≤ k → (v : Bool) → v ≡ lengths_test s u l → v ≡ true → (w : Bool) → w ≡ no_layer u l → w ≡ false → Ok 0 ≡ after_tests (import_tests u l s) (Ok 0)
+  unfolding import_tests after_tests
+  none_broken s h m v v_is v_not w w_is w_not = rw (← v_is, v_not, ← w_is, w_not, h 0 (omega arith), h 1 (omega arith), h 2 (omega arith), h 3 (omega arith)) refl
+
+-- ---- the state wiped
 
 zeros_are_blank : (n : ℕ) → n ≡ 13324 → replicate n 0 ≡ blank
 unfolding blank
@@ -90,16 +107,16 @@ passed_fits u l s h = go (state_fits s) refl
     go true e = refl
     go false e = rw e at h
 
-module _ (u l s : List ℕ) (f : Answer) (q : f ≡ after_tests (import_tests u l s) (Fine 0)) where
-  pub import_refused : (r : Refusal) → f ≡ Refused r → f ≡ (import_spec u l s).answer
-  import_refused r h = stops (import_tests u l s) (root_tests u l) f (Fine 0) 0 q r h
+module _ (u l s : List ℕ) (f : Result ℕ Refusal) (q : f ≡ after_tests (import_tests u l s) (Ok 0)) where
+  pub import_refused : (r : Refusal) → f ≡ Err r → f ≡ (import_spec u l s).answer
+  import_refused r h = stops (import_tests u l s) (root_tests u l) f (Ok 0) 0 q r h
 
-  pub import_wiped : (r : Refusal) (t : List ℕ) → f ≡ Refused r → t ≡ wiped s → t ≡ (import_spec u l s).state
+  pub import_wiped : (r : Refusal) (t : List ℕ) → f ≡ Err r → t ≡ wiped s → t ≡ (import_spec u l s).state
   import_wiped r t h e = e ∙ rw (passed_append (import_tests u l s) (root_tests u l), refused_failed (import_tests u l s) 0 r (sym q ∙ h)) refl
 
-  module _ (k : ℕ) (h : f ≡ Fine k) (t : List ℕ) (g : t ≡ rooted u l (wiped s)) (a : Answer) (d : a ≡ after_tests (load_tests u l t 0) (Fine 0)) where
+  module _ (k : ℕ) (h : f ≡ Ok k) (t : List ℕ) (g : t ≡ rooted u l (wiped s)) (a : Result ℕ Refusal) (d : a ≡ after_tests (load_tests u l t 0) (Ok 0)) where
     were_passed : passed (import_tests u l s) ≡ true
-    were_passed = fine_passed (import_tests u l s) (Fine 0) k (sym q ∙ h)
+    were_passed = fine_passed (import_tests u l s) (Ok 0) k (sym q ∙ h)
 
     fits : state_fits s ≡ true
     fits = passed_fits u l s were_passed
@@ -107,18 +124,18 @@ module _ (u l s : List ℕ) (f : Answer) (q : f ≡ after_tests (import_tests u 
     root_is : t ≡ rooted u l blank
     root_is = g ∙ rw (wiped_is s fits) refl
 
-    loads : a ≡ after_tests (root_tests u l) (Fine 0)
+    loads : a ≡ after_tests (root_tests u l) (Ok 0)
     unfolding root_tests
     loads = d ∙ rw root_is refl
 
     pub import_answered : a ≡ (import_spec u l s).answer
-    import_answered = goes_on (import_tests u l s) (root_tests u l) f (Fine 0) 0 q k a h loads
+    import_answered = goes_on (import_tests u l s) (root_tests u l) f (Ok 0) 0 q k a h loads
 
-    pub import_loaded : (j : ℕ) (w : List ℕ) → a ≡ Fine j → w ≡ load_bytes u l t 0 → w ≡ (import_spec u l s).state
+    pub import_loaded : (j : ℕ) (w : List ℕ) → a ≡ Ok j → w ≡ load_bytes u l t 0 → w ≡ (import_spec u l s).state
     import_loaded j w y e =
-        e ∙ rw (root_is, passed_append (import_tests u l s) (root_tests u l), were_passed, fine_passed (root_tests u l) (Fine 0) j (sym loads ∙ y)) refl
+        e ∙ rw (root_is, passed_append (import_tests u l s) (root_tests u l), were_passed, fine_passed (root_tests u l) (Ok 0) j (sym loads ∙ y)) refl
 
-    pub root_wiped : (r : Refusal) (w v : List ℕ) → a ≡ Refused r → length t ≡ length s → length w ≡ length t → v ≡ wiped w → v ≡ (import_spec u l s).state
+    pub root_wiped : (r : Refusal) (w v : List ℕ) → a ≡ Err r → length t ≡ length s → length w ≡ length t → v ≡ wiped w → v ≡ (import_spec u l s).state
     root_wiped r w v y m n e =
         let z : state_fits w ≡ true = ap (λ (i : ℕ). eqb i 13324) (n ∙ m) ∙ fits in
         (e ∙ wiped_is w z)

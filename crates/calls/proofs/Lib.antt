@@ -1,6 +1,7 @@
 -- The laws of the calls.
 pub mod DirentLaws
 pub mod TestLaws
+pub mod Raised
 pub mod ParentLaws
 pub mod RecordLaws
 pub mod ListingLaws
@@ -25,7 +26,6 @@ pub mod CountLaws
 pub mod ImportLaws
 pub mod NodeLaws
 pub mod CallFacts
-pub mod FaceLaws
 pub mod RoomLaws
 pub mod WritingLaws
 pub mod NumberTests

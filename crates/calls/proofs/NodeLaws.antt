@@ -1,17 +1,16 @@
 -- A node's bytes handed out. Assumes nothing.
+use Rattle.std.specs.Prelude.{Option, Some, None, Ok, Err}
 use mathlib.Core.Path.{◌≡◌, refl, ◌∙◌}
-use Prim.Native.Nat.{ℕ, ◌+◌, ◌*◌, ◌-◌, ◌≤◌, ◌<◌}
+use Prim.Native.Nat.{ℕ, ◌+◌, ◌*◌, ◌≤◌, ◌<◌}
 use native.Mathlib.Omega.{arith}
 use mathlib.Core.Bool.{Bool, true, false, not}
 use mathlib.Core.List.{List}
 use lib.ListN.{length, length-take, length-drop}
 use borrow.Author.Tests.{lt-ltb, le-ltb}
 use Rattle.layers.specs.Bytes.{part, over, laid}
-use Rattle.layers.specs.declared.search.Found.{Found}
-use Rattle.layers.specs.declared.search.Found.TheVariants.{At, Missing}
 use Rattle.layers.proofs.Numbers.{laid_in}
 use Rattle.merge.specs.Nodes.{nodes_of}
-use Rattle.merge.specs.State.{find_number, is_found}
+use Rattle.merge.specs.State.{find_number}
 use Rattle.merge.proofs.HeadLaws.{in_memory}
 use Rattle.merge.proofs.FoundLaws.{number_below}
 use Rattle.calls.specs.Refusal.{after_tests, passed}
@@ -19,18 +18,13 @@ use Rattle.calls.specs.Lengths.{state_fits}
 use Rattle.calls.specs.Parents.{place_of}
 use Rattle.calls.specs.NodeCall.{node_tests, node_answer, node_out}
 use Rattle.calls.specs.declared.refusal.Refusal.TheVariants.{Enoent, Einval}
-use Rattle.calls.specs.declared.refusal.Answer.TheVariants.{Fine, Refused}
 
 -- a node found lies in the memory
-pub found_in : (s : List ℕ) (x : ℕ) (f : Found) (k : ℕ) → f ≡ find_number (nodes_of s) x → f ≡ At k → 52 * k + 64 ≤ length s
+pub found_in : (s : List ℕ) (x : ℕ) (f : Option ℕ) (k : ℕ) → f ≡ find_number (nodes_of s) x → f ≡ Some k → 52 * k + 64 ≤ length s
 found_in s x f k q h = in_memory s k (number_below s f k h x q)
 
--- a part from its start and its end
-pub part_width : (s out w : List ℕ) (k : ℕ) → w ≡ laid out 0 (part s (12 + 52 * k) (12 + 52 * k + 52 - (12 + 52 * k))) → w ≡ laid out 0 (part s (12 + 52 * k) 52)
-part_width s out w k e = let n : 12 + 52 * k + 52 - (12 + 52 * k) ≡ 52 = omega arith in e ∙ rw n refl
-
 module _ (s : List ℕ) (x : ℕ) (out : List ℕ) (b : Bool) (t : b ≡ state_fits s) where
-  pub node_lengths : not b ≡ true → Refused Einval ≡ node_answer s x out
+  pub node_lengths : not b ≡ true → Err Einval ≡ node_answer s x out
   unfolding node_tests after_tests
   node_lengths h = rw (← t, h) refl
 
@@ -38,30 +32,30 @@ module _ (s : List ℕ) (x : ℕ) (out : List ℕ) (b : Bool) (t : b ≡ state_f
   unfolding node_tests passed node_out
   lengths_untouched h = rw (← t, h) refl
 
-  module _ (g : not b ≡ false) (f : Found) (q : f ≡ find_number (nodes_of s) x) where
-    pub node_unknown : f ≡ Missing → Refused Enoent ≡ node_answer s x out
-    unfolding node_tests after_tests is_found
+  module _ (g : not b ≡ false) (f : Option ℕ) (q : f ≡ find_number (nodes_of s) x) where
+    pub node_unknown : f ≡ None → Err Enoent ≡ node_answer s x out
+    unfolding node_tests after_tests
     node_unknown h = rw (← t, g, ← q, h) refl
 
-    pub unknown_untouched : f ≡ Missing → out ≡ node_out s x out
-    unfolding node_tests passed node_out is_found
+    pub unknown_untouched : f ≡ None → out ≡ node_out s x out
+    unfolding node_tests passed node_out
     unknown_untouched h = rw (← t, g, ← q, h) refl
 
-    module _ (k : ℕ) (h : f ≡ At k) where
-      pub node_short : length out < 52 → Refused Einval ≡ node_answer s x out
-      unfolding node_tests after_tests is_found
+    module _ (k : ℕ) (h : f ≡ Some k) where
+      pub node_short : length out < 52 → Err Einval ≡ node_answer s x out
+      unfolding node_tests after_tests
       node_short i = rw (← t, g, ← q, h, lt-ltb (length out) 52 i) refl
 
       pub short_untouched : length out < 52 → out ≡ node_out s x out
-      unfolding node_tests passed node_out is_found
+      unfolding node_tests passed node_out
       short_untouched i = rw (← t, g, ← q, h, lt-ltb (length out) 52 i) refl
 
-      pub node_given : 52 ≤ length out → Fine 0 ≡ node_answer s x out
-      unfolding node_tests after_tests is_found
+      pub node_given : 52 ≤ length out → Ok 0 ≡ node_answer s x out
+      unfolding node_tests after_tests
       node_given i = rw (← t, g, ← q, h, le-ltb (length out) 52 i) refl
 
       pub bytes_given : 52 ≤ length out → (w : List ℕ) → w ≡ laid out 0 (part s (12 + 52 * k) 52) → w ≡ node_out s x out
-      unfolding node_tests passed node_out is_found place_of
+      unfolding node_tests passed node_out place_of
       bytes_given i w e =
           let l : 52 * k + 64 ≤ length s = found_in s x f k q h in
           let m : length (part s (12 + 52 * k) 52) ≡ 52 = simp (length-take, length-drop) (omega arith) in

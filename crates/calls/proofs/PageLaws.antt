@@ -1,4 +1,5 @@
 -- Entries written one after another are a page of their list. Assumes nothing.
+use Rattle.std.specs.Prelude.{Option, Some, None}
 use mathlib.Core.Path.{◌≡◌, refl, sym, ap, ◌∙◌}
 use Prim.Native.Nat.{ℕ, suc, ◌+◌, ◌-◌, ◌≤◌, ◌<◌}
 use native.Mathlib.Omega.{arith}
@@ -16,8 +17,6 @@ use Rattle.layers.proofs.Runs.{over_next, length_over}
 use Rattle.layers.proofs.Least.{least_right}
 use Rattle.calls.specs.Dirents.{Dirent, dirent_size, dirent_bytes, room_of, fits, put_answer, put_dirent}
 use Rattle.calls.specs.Pages.{fitting, bytes_from, page_bytes, remaining, page_of, page_over, entry_answer, entry_over, Filled, filled, fill}
-use Rattle.calls.specs.declared.dirent.Put.{Put}
-use Rattle.calls.specs.declared.dirent.Put.TheVariants.{Next, Full}
 
 pub length_dirent : (i : ℕ) (d : Dirent) → length (dirent_bytes i d) ≡ dirent_size d
 unfolding dirent_bytes dirent_size
@@ -26,7 +25,7 @@ length_dirent i d = simp (length-append, length_le, length-replicate) (omega ari
 -- ---- one entry
 
 module _ (o limit : ℕ) (t : List ℕ) (at i : ℕ) (d : Dirent) where
-  pub passed_answer : i < o → Next at ≡ entry_answer o limit t at i d
+  pub passed_answer : i < o → Some at ≡ entry_answer o limit t at i d
   unfolding entry_answer
   passed_answer h = rw (lt-ltb i o h) refl
 
@@ -34,7 +33,7 @@ module _ (o limit : ℕ) (t : List ℕ) (at i : ℕ) (d : Dirent) where
   unfolding entry_over
   passed_over h = rw (lt-ltb i o h) refl
 
-  pub put_answer_lem : o ≤ i → (r : Put) → r ≡ put_answer limit t at d → r ≡ entry_answer o limit t at i d
+  pub put_answer_lem : o ≤ i → (r : Option ℕ) → r ≡ put_answer limit t at d → r ≡ entry_answer o limit t at i d
   unfolding entry_answer
   put_answer_lem h r e = rw (le-ltb i o h) e
 
@@ -43,22 +42,22 @@ module _ (o limit : ℕ) (t : List ℕ) (at i : ℕ) (d : Dirent) where
   put_over h v e = rw (le-ltb i o h) e
 
   -- the entries that follow one that was written or passed over, and one that did not fit
-  module _ (r : Put) (v : List ℕ) (p : r ≡ entry_answer o limit t at i d) (q : v ≡ entry_over o limit t at i d) (ds : List Dirent) where
-    pub fill_next : (a : ℕ) → r ≡ Next a → fill o limit (i + 1) a v ds ≡ fill o limit i at t (d ∷ ds)
+  module _ (r : Option ℕ) (v : List ℕ) (p : r ≡ entry_answer o limit t at i d) (q : v ≡ entry_over o limit t at i d) (ds : List Dirent) where
+    pub fill_next : (a : ℕ) → r ≡ Some a → fill o limit (i + 1) a v ds ≡ fill o limit i at t (d ∷ ds)
     unfolding fill entry_answer entry_over put_answer put_dirent
     fill_next a h = rw (add-one i) (go (ltb i o) (fits limit t at d) (sym p ∙ h) q)
       where
-        go : (b c : Bool) → cond b (Next at) (cond c (Next (at + dirent_size d)) Full) ≡ Next a → v ≡ cond b t (cond c (over t at (dirent_bytes i d)) t)
+        go : (b c : Bool) → cond b (Some at) (cond c (Some (at + dirent_size d)) None) ≡ Some a → v ≡ cond b t (cond c (over t at (dirent_bytes i d)) t)
             → fill o limit (suc i) a v ds ≡ cond b (fill o limit (suc i) at t ds) (cond c (fill o limit (suc i) (at + dirent_size d) (over t at (dirent_bytes i d)) ds) (filled at true t))
         go true c e f = let z : at ≡ a = cc in rw (z, f) refl
         go false true e f = let z : at + dirent_size d ≡ a = cc in rw (z, f) refl
         go false false e f = absurd (let z : ◌≡◌ {A = ℕ} 0 1 = cc in omega arith)
 
-    pub fill_full : r ≡ Full → filled at true v ≡ fill o limit i at t (d ∷ ds)
+    pub fill_full : r ≡ None → filled at true v ≡ fill o limit i at t (d ∷ ds)
     unfolding fill entry_answer entry_over put_answer put_dirent
     fill_full h = go (ltb i o) (fits limit t at d) (sym p ∙ h) q
       where
-        go : (b c : Bool) → cond b (Next at) (cond c (Next (at + dirent_size d)) Full) ≡ Full → v ≡ cond b t (cond c (over t at (dirent_bytes i d)) t)
+        go : (b c : Bool) → cond b (Some at) (cond c (Some (at + dirent_size d)) None) ≡ None → v ≡ cond b t (cond c (over t at (dirent_bytes i d)) t)
             → filled at true v ≡ cond b (fill o limit (suc i) at t ds) (cond c (fill o limit (suc i) (at + dirent_size d) (over t at (dirent_bytes i d)) ds) (filled at true t))
         go true c e f = absurd (let z : ◌≡◌ {A = ℕ} 0 1 = cc in omega arith)
         go false true e f = absurd (let z : ◌≡◌ {A = ℕ} 0 1 = cc in omega arith)

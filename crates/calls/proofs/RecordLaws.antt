@@ -22,11 +22,9 @@ unfolding records_of
 no_record_lem zero = refl
 no_record_lem (suc i) = empty_record 128 i
 
-module _ (u l t : List ℕ) (p : Pair) (w : ℕ) (e : t ≡ table_of u l w) (q : w ≡ p.layer) where
-  pub record_none : (length t ≡ 8192 → ⊥) → record_at (records_of (table_of u l p.layer)) p.number ≡ free_record
-  record_none h =
-      let g : table_of u l p.layer ≡ [] = table_none u l p.layer (λ z. h (ap length (e ∙ ap (table_of u l) q) ∙ z)) in
-      ap (λ (y : List ℕ). record_at (records_of y) p.number) g ∙ no_record_lem p.number
+module _ (u l : List ℕ) (p : Pair) (w : ℕ) (q : w ≡ p.layer) where
+  pub record_none : table_of u l w ≡ [] → record_at (records_of (table_of u l p.layer)) p.number ≡ free_record
+  record_none h = rw (← q, h) (no_record_lem p.number)
 
-  pub record_there : (v : ℕ) (r : Record) → v ≡ p.number → r ≡ record_at (records_of t) v → r ≡ record_at (records_of (table_of u l p.layer)) p.number
-  record_there v r k h = h ∙ rw (e, q, k) refl
+  pub record_there : (t : List ℕ) → t ≡ table_of u l w → (v : ℕ) (r : Record) → v ≡ p.number → r ≡ record_at (records_of t) v → r ≡ record_at (records_of (table_of u l p.layer)) p.number
+  record_there t e v r k h = h ∙ rw (e, q, k) refl

@@ -1,114 +1,82 @@
 -- What the paths of a call need in the upper layer, walked up, and what the call frees there. Assumes nothing.
-use mathlib.Core.Path.{◌≡◌, refl, sym, ap, ◌∙◌}
-use Prim.Native.Nat.{ℕ, suc, ◌+◌, ◌-◌, ◌≤◌, ◌<◌}
+use mir.Val.{bool_byte}
+use Rattle.std.specs.Prelude.{Option, Some, None, is_some, ◌||◌}
+use Rattle.std.specs.List.{list_any, filter}
+use Rattle.std.specs.Iterator.{YieldsFirst}
+use Rattle.std.proofs.lemmas.Iterator.{YieldsList}
+use Rattle.std.proofs.lemmas.Iterator.Consumers.{YieldsList-from_first}
+use mathlib.Core.Path.{◌≡◌, refl, ap, ◌∙◌}
+use Prim.Native.Nat.{ℕ, zero, suc, ◌+◌, ◌-◌, ◌≤◌, ◌<◌}
 use native.Mathlib.Omega.{arith}
-use mathlib.Core.Bool.{Bool, true, false, not}
+use mathlib.Core.Bool.{Bool, true, false, not, cond}
 use mathlib.Core.List.{List, [], ◌∷◌}
-use lib.Dec.{ltb, leb}
+use lib.Dec.{eqb, ltb, leb}
 use lib.ListN.{length}
-use borrow.Author.Tests.{eq-eqb, ne_eqb, le-leb, lt-leb, ltb-true, ltb-false}
+use borrow.Author.Tests.{le-leb, lt-leb, ltb-true, ltb-false}
 use Rattle.layers.specs.Names.{Name}
 use Rattle.layers.specs.Items.{records_of, entries_of, entry_at}
 use Rattle.layers.specs.Search.{one, count_if, search_of, is_free, no_record, naming, used_entries, used_records}
 use Rattle.layers.proofs.ItemLaws.{length_records, length_entries}
 use Rattle.layers.proofs.CountLaws.{count_below}
-use Rattle.layers.specs.declared.search.Found.{Found}
-use Rattle.layers.specs.declared.search.Found.TheVariants.{At, Missing}
 use Rattle.merge.specs.Nodes.{nodes_of, node_at}
-use Rattle.merge.specs.State.{is_found}
 use Rattle.merge.specs.declared.stacks.Pair.{Pair}
 use Rattle.merge.specs.declared.node.Node.{Node}
 use Rattle.calls.specs.Parents.{place_numbered, top_of}
 use Rattle.calls.specs.Upper.{in_upper}
-use Rattle.calls.specs.Room.{missing_from, missing, is_in, is_outside, missing_beside, missing_either, whiteout_entry, freed_entries, freed_records, overfull}
+use Rattle.calls.specs.declared.room.MissingFrom.{MissingFrom}
+use Rattle.calls.specs.Room.{missing_from, missing, places_left, is_in, missing_beside, missing_either, whiteout_entry, freed_entries, freed_records, overfull}
 
 -- ---- one step of the walk up
 
 -- where no step is left nothing is missing
-none_left : (s : List ℕ) (m j : ℕ) → m ≤ 0 → missing_from m s j ≡ []
+pub none_left : (s : List ℕ) (m j : ℕ) → m ≡ 0 → missing_from m s j ≡ []
 unfolding missing_from
-none_left s m j h = let e : m ≡ 0 = omega arith in rw e refl
+none_left s m j h = rw h refl
 
-module _ (s : List ℕ) (m j : ℕ) (some : 0 < m) (n : Node) (n_is : n ≡ node_at (nodes_of s) j) (b : Bool) (b_is : b ≡ in_upper n) where
+module _ (s : List ℕ) (m j : ℕ) (some : m ≡ 0 → ⊥) (n : Node) (n_is : n ≡ node_at (nodes_of s) j) (b : Bool) (b_is : b ≡ in_upper n) where
   step : missing_from m s j ≡ missing_from (suc (m - 1)) s j
   step = let e : m ≡ suc (m - 1) = omega arith in ap (λ (i : ℕ). missing_from i s j) e
 
-  none_above : b ≡ true → missing_from m s j ≡ []
+  pub none_above : b ≡ true → missing_from m s j ≡ []
   unfolding missing_from
   none_above h = step ∙ rw (← n_is, ← b_is, h) refl
 
-  one_above : b ≡ false → (p k : ℕ) → p ≡ n.parent → k ≡ place_numbered s p → missing_from m s j ≡ j ∷ missing_from (m - 1) s k
+  pub one_above : b ≡ false → (p k : ℕ) → p ≡ n.parent → k ≡ place_numbered s p → missing_from m s j ≡ j ∷ missing_from (m - 1) s k
   unfolding missing_from
   one_above h p k p_is k_is = step ∙ rw (k_is, p_is, ← n_is, ← b_is, h) refl
 
--- ---- the walks: what is left answers as the whole
+-- ---- the walks
 
-module _ (s : List ℕ) (m j w : ℕ) (inv : length (missing_from m s j) + (17 - m) ≡ w) where
-  pub count_end : m ≤ 0 → 17 ≡ w
-  count_end h =
-      let e : length (missing_from m s j) ≡ 0 = ap length (none_left s m j h) in
-      omega arith
+-- what a walk that has these places left gives
+pub walk_yields : (w : MissingFrom) (xs : List ℕ) → places_left w ≡ xs → YieldsList (YieldsFirst places_left) (λ x. x) w xs
+walk_yields w xs e = YieldsList-from_first (λ x. x) places_left xs e
 
-  module _ (some : 0 < m) (n : Node) (n_is : n ≡ node_at (nodes_of s) j) (b : Bool) (b_is : b ≡ in_upper n) where
-    pub count_stops : b ≡ true → 17 - m ≡ w
-    count_stops h =
-        let e : length (missing_from m s j) ≡ 0 = ap length (none_above s m j some n n_is b b_is h) in
-        omega arith
+pub length_missing : (s : List ℕ) (m j : ℕ) → length (missing_from m s j) ≤ m
+unfolding missing_from
+length_missing s zero j = omega arith
+length_missing s (suc m) j = go (in_upper (node_at (nodes_of s) j)) (missing_from m s _) (length_missing s m _)
+  where
+    go : (b : Bool) (xs : List ℕ) → length xs ≤ m → length (cond b [] (j ∷ xs)) ≤ suc m
+    go true xs h = omega arith
+    go false xs h = omega (arith, h)
 
-    pub count_next : m ≤ 17 → b ≡ false → (p k : ℕ) → p ≡ n.parent → k ≡ place_numbered s p → length (missing_from (m - 1) s k) + (17 - (m - 1)) ≡ w
-    count_next most h p k p_is k_is =
-        let e : length (missing_from m s j) ≡ suc (length (missing_from (m - 1) s k)) = ap length (one_above s m j some n n_is b b_is h p k p_is k_is) in
-        omega arith
+pub is_in_any : (x : ℕ) (ys : List ℕ) → is_in x ys ≡ list_any (λ y. eqb x y) ys
+unfolding is_in
+is_in_any x [] = refl
+is_in_any x (y ∷ ys) = rw (is_in_any x ys) (go (eqb x y) (list_any (λ y. eqb x y) ys))
+  where
+    go : (a b : Bool) → cond a true b ≡ a || b
+    go true b = refl
+    go false b = refl
 
-module _ (s : List ℕ) (m j i : ℕ) (w : Bool) (inv : is_in i (missing_from m s j) ≡ w) where
-  pub is_in_end : m ≤ 0 → false ≡ w
-  unfolding is_in
-  is_in_end h = sym (ap (is_in i) (none_left s m j h)) ∙ inv
-
-  module _ (some : 0 < m) (n : Node) (n_is : n ≡ node_at (nodes_of s) j) (b : Bool) (b_is : b ≡ in_upper n) where
-    pub is_in_stops : b ≡ true → false ≡ w
-    unfolding is_in
-    is_in_stops h = sym (ap (is_in i) (none_above s m j some n n_is b b_is h)) ∙ inv
-
-    pub is_in_here : b ≡ false → i ≡ j → true ≡ w
-    unfolding is_in
-    is_in_here h e =
-        rw (eq-eqb i j e) at (sym (ap (is_in i) (one_above s m j some n n_is b b_is h n.parent (place_numbered s n.parent) refl refl)) ∙ inv)
-
-    pub is_in_next : b ≡ false → (i ≡ j → ⊥) → (p k : ℕ) → p ≡ n.parent → k ≡ place_numbered s p → is_in i (missing_from (m - 1) s k) ≡ w
-    unfolding is_in
-    is_in_next h e p k p_is k_is =
-        rw (ne_eqb i j e) at (sym (ap (is_in i) (one_above s m j some n n_is b b_is h p k p_is k_is)) ∙ inv)
-
--- how many pass the test `p`
-module _ (s : List ℕ) (p : ℕ → Bool) (m j c w : ℕ) (inv : c + count_if p (missing_from m s j) ≡ w) where
-  none_counts : missing_from m s j ≡ [] → c ≡ w
-  unfolding count_if
-  none_counts h =
-      let e : count_if p (missing_from m s j) ≡ 0 = ap (count_if p) h in
-      omega arith
-
-  pub tally_end : m ≤ 0 → c ≡ w
-  tally_end h = none_counts (none_left s m j h)
-
-  module _ (some : 0 < m) (n : Node) (n_is : n ≡ node_at (nodes_of s) j) (b : Bool) (b_is : b ≡ in_upper n) where
-    pub tally_stops : b ≡ true → c ≡ w
-    tally_stops h = none_counts (none_above s m j some n n_is b b_is h)
-
-    pub tally_next : b ≡ false → (q k a : ℕ) → q ≡ n.parent → k ≡ place_numbered s q → a ≡ one (p j) → c + a + count_if p (missing_from (m - 1) s k) ≡ w
-    unfolding count_if
-    tally_next h q k a q_is k_is a_is =
-        let e : count_if p (missing_from m s j) ≡ one (p j) + count_if p (missing_from (m - 1) s k) = ap (count_if p) (one_above s m j some n n_is b b_is h q k q_is k_is) in
-        omega arith
-
-module _ (x : ℕ) (ys : List ℕ) (b : Bool) (b_is : b ≡ is_in x ys) where
-  pub inside : b ≡ true → 0 ≡ one (is_outside ys x)
-  unfolding one is_outside
-  inside h = rw (← b_is, h) refl
-
-  pub outside : b ≡ false → 1 ≡ one (is_outside ys x)
-  unfolding one is_outside
-  outside h = rw (← b_is, h) refl
+pub length_filtered : {A : Type 0} (p : A → Bool) (xs : List A) → length (filter p xs) ≡ count_if p xs
+unfolding count_if one
+length_filtered p [] = refl
+length_filtered p (x ∷ xs) = go (p x) (length_filtered p xs)
+  where
+    go : (b : Bool) → length (filter p xs) ≡ count_if p xs → length (cond b (x ∷ filter p xs) (filter p xs)) ≡ cond b 1 0 + count_if p xs
+    go true e = omega (arith, e)
+    go false e = omega (arith, e)
 
 pub either_sum : (s : List ℕ) (j k a b : ℕ) → a ≡ length (missing s k) → b ≡ missing_beside s j k → a + b ≡ missing_either s j k
 unfolding missing_either
@@ -116,53 +84,42 @@ either_sum s j k a b a_is b_is = rw (a_is, b_is) refl
 
 -- ---- what is freed
 
-module _ (t s : List ℕ) (k : ℕ) (f : Found) (x : Name) where
-  pub whiteout_none : f ≡ Missing → Missing ≡ whiteout_entry t s k f x
+module _ (t s : List ℕ) (k : ℕ) (f : Option ℕ) (x : Name) where
+  pub whiteout_none : f ≡ None → None ≡ whiteout_entry t s k f x
   unfolding whiteout_entry
   whiteout_none h = rw h refl
 
-  module _ (j : ℕ) (h : f ≡ At j) (n : Node) (n_is : n ≡ node_at (nodes_of s) j) (b : Bool) (b_is : b ≡ in_upper n) where
-    pub whiteout_lower : b ≡ false → Missing ≡ whiteout_entry t s k f x
+  module _ (j : ℕ) (h : f ≡ Some j) (n : Node) (n_is : n ≡ node_at (nodes_of s) j) (b : Bool) (b_is : b ≡ in_upper n) where
+    pub whiteout_lower : b ≡ false → None ≡ whiteout_entry t s k f x
     unfolding whiteout_entry
     whiteout_lower g = rw (h, ← n_is, ← b_is, g) refl
 
-    pub whiteout_upper : b ≡ true → (m : Node) (d : Pair) (e : Found) → m ≡ node_at (nodes_of s) k → d ≡ top_of m → e ≡ search_of (entries_of t) d.number x → e ≡ whiteout_entry t s k f x
+    pub whiteout_upper : b ≡ true → (m : Node) (d : Pair) (e : Option ℕ) → m ≡ node_at (nodes_of s) k → d ≡ top_of m → e ≡ search_of (entries_of t) d.number x → e ≡ whiteout_entry t s k f x
     unfolding whiteout_entry
     whiteout_upper g m d e m_is d-is e_is = e_is ∙ rw (h, ← n_is, ← b_is, g, d-is, m_is) refl
 
-pub ruleset whiteouts = (whiteout_none, whiteout_lower, whiteout_upper)
+-- a test as a number
+one_as_byte : (b : Bool) → (bool_byte b ≡ one b) × (bool_byte b ≤ 1)
+unfolding one
+one_as_byte true = (refl, omega arith)
+one_as_byte false = (refl, omega arith)
 
-module _ (e : Found) where
-  pub entry_stays : e ≡ Missing → 0 ≡ freed_entries e
-  unfolding one is_found
-  entry_stays h = rw h refl
+module _ (e : Option ℕ) where
+  pub entry_freed : (b : Bool) (r : ℕ) → b ≡ is_some e → r ≡ bool_byte b → (r ≡ freed_entries e) × (r ≤ 1)
+  entry_freed b r b_is r_is = rw (r_is, b_is) (one_as_byte (is_some e))
 
-  pub entry_goes : (j : ℕ) → e ≡ At j → 1 ≡ freed_entries e
-  unfolding one is_found
-  entry_goes j h = rw h refl
-
-module _ (t : List ℕ) (e : Found) where
-  pub no_record_goes : e ≡ Missing → 0 ≡ freed_records t e
+module _ (t : List ℕ) (e : Option ℕ) where
+  pub no_record_goes : e ≡ None → 0 ≡ freed_records t e
   unfolding freed_records
   no_record_goes h = rw h refl
 
-  module _ (j c n : ℕ) (h : e ≡ At j) (c_is : c ≡ (entry_at (entries_of t) j).child) (n_is : n ≡ naming c (entries_of t)) where
-    naming_is : n ≡ naming (entry_at (entries_of t) j).child (entries_of t)
-    naming_is = n_is ∙ rw c_is refl
-
-    pub record_goes : n ≡ 1 → 1 ≡ freed_records t e
-    unfolding freed_records one
-    record_goes g = rw (h, eq-eqb (naming (entry_at (entries_of t) j).child (entries_of t)) 1 (sym naming_is ∙ g)) refl
-
-    pub record_stays : (n ≡ 1 → ⊥) → 0 ≡ freed_records t e
-    unfolding freed_records one
-    record_stays g = rw (h, ne_eqb (naming (entry_at (entries_of t) j).child (entries_of t)) 1 (λ i. g (naming_is ∙ i))) refl
-
-pub ruleset freed = (entry_stays, entry_goes, no_record_goes, record_goes, record_stays)
+  pub record_freed : (j c n : ℕ) → e ≡ Some j → c ≡ (entry_at (entries_of t) j).child → n ≡ naming c (entries_of t) → (r : ℕ) → r ≡ bool_byte (eqb n 1) → (r ≡ freed_records t e) × (r ≤ 1)
+  unfolding freed_records
+  record_freed j c n h c_is n_is r r_is = rw (h, ← c_is, ← n_is, r_is) (one_as_byte (eqb n 1))
 
 -- ---- whether it fits
 
-module _ (t : List ℕ) (e : Found) (records entries : ℕ) where
+module _ (t : List ℕ) (e : Option ℕ) (records entries : ℕ) where
   records_below : used_records (records_of t) ≤ 128
   records_below = omega (arith, count_below (λ r. not (no_record r)) (records_of t), length_records t)
 

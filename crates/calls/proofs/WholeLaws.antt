@@ -1,4 +1,5 @@
 -- A directory's whole listing, as the code writes it: the fixed names, then the children. Assumes nothing.
+use Rattle.std.specs.Prelude.{Option, Some, None}
 use mathlib.Core.Path.{◌≡◌, sym, ap, ◌∙◌}
 use Prim.Native.Nat.{ℕ, ◌+◌, ◌*◌, ◌≤◌}
 use native.Mathlib.Omega.{arith}
@@ -13,8 +14,6 @@ use Rattle.calls.specs.Dirents.{Dirent, room_of}
 use Rattle.calls.specs.Pages.{page_bytes, page_of, page_over, Paged, entry_answer, entry_over, Filled, filled, fill}
 use Rattle.calls.specs.Parents.{numbered}
 use Rattle.calls.specs.Listing.{dirent_of, above, child_dirents, listing_of}
-use Rattle.calls.specs.declared.dirent.Put.{Put}
-use Rattle.calls.specs.declared.dirent.Put.TheVariants.{Next, Full}
 use Rattle.calls.specs.declared.page.Page.{Page}
 use Rattle.calls.proofs.PageLaws.{fill_next, fill_full, fill_page}
 use Rattle.calls.proofs.PageBounds.{listing_bytes}
@@ -32,7 +31,7 @@ module _ (s : List ℕ) (x : ℕ) (n : Node) where
       d ∙ (ap (λ (y : ℕ). numbered s y) (g ∙ ap (λ (k : Node). k.parent) e) ∙ ap (λ (b : Bool). numbered s (cond b 1 (numbered s x).parent)) (sym (ne_eqb x 1 h)))
 
 -- ---- the fixed names, then the children
-module _ (o limit : ℕ) (t u l s : List ℕ) (x : ℕ) (n : Node) (n_is : n ≡ numbered s x) (r : Put) (v : List ℕ)
+module _ (o limit : ℕ) (t u l s : List ℕ) (x : ℕ) (n : Node) (n_is : n ≡ numbered s x) (r : Option ℕ) (v : List ℕ)
     (p : r ≡ entry_answer o limit t 0 0 (dirent_of u l (46 ∷ []) n)) (q : v ≡ entry_over o limit t 0 0 (dirent_of u l (46 ∷ []) n)) where
   abbrev rest : List Dirent
   rest = dirent_of u l (46 ∷ 46 ∷ []) (numbered s (above s x)) ∷ child_dirents u l x (nodes_of s)
@@ -41,20 +40,20 @@ module _ (o limit : ℕ) (t u l s : List ℕ) (x : ℕ) (n : Node) (n_is : n ≡
   unfolding listing_of
   whole = ap (λ (m : Node). fill o limit 0 0 t (dirent_of u l (46 ∷ []) m ∷ rest)) n_is
 
-  pub first_full : r ≡ Full → filled 0 true v ≡ fill o limit 0 0 t (listing_of u l s x)
+  pub first_full : r ≡ None → filled 0 true v ≡ fill o limit 0 0 t (listing_of u l s x)
   first_full h = fill_full o limit t 0 0 (dirent_of u l (46 ∷ []) n) r v p q rest h ∙ whole
 
-  module _ (a : ℕ) (h : r ≡ Next a) (m : Node) (m_is : m ≡ numbered s (above s x)) (r₂ : Put) (v₂ : List ℕ)
+  module _ (a : ℕ) (h : r ≡ Some a) (m : Node) (m_is : m ≡ numbered s (above s x)) (r₂ : Option ℕ) (v₂ : List ℕ)
       (p₂ : r₂ ≡ entry_answer o limit v a 1 (dirent_of u l (46 ∷ 46 ∷ []) m)) (q₂ : v₂ ≡ entry_over o limit v a 1 (dirent_of u l (46 ∷ 46 ∷ []) m)) where
     second : fill o limit 1 a v (dirent_of u l (46 ∷ 46 ∷ []) m ∷ child_dirents u l x (nodes_of s)) ≡ fill o limit 0 0 t (listing_of u l s x)
     second =
         ap (λ (k : Node). fill o limit 1 a v (dirent_of u l (46 ∷ 46 ∷ []) k ∷ child_dirents u l x (nodes_of s))) m_is
         ∙ (fill_next o limit t 0 0 (dirent_of u l (46 ∷ []) n) r v p q rest a h ∙ whole)
 
-    pub second_full : r₂ ≡ Full → filled a true v₂ ≡ fill o limit 0 0 t (listing_of u l s x)
+    pub second_full : r₂ ≡ None → filled a true v₂ ≡ fill o limit 0 0 t (listing_of u l s x)
     second_full g = fill_full o limit v a 1 (dirent_of u l (46 ∷ 46 ∷ []) m) r₂ v₂ p₂ q₂ (child_dirents u l x (nodes_of s)) g ∙ second
 
-    pub then_children : (b : ℕ) → r₂ ≡ Next b → (y : Page) (w : List ℕ) → ◌≡◌ {A = Filled} (record { page = y; buffer = w }) (fill o limit 2 b v₂ (child_dirents u l x (nodes_of s))) → ◌≡◌ {A = Filled} (record { page = y; buffer = w }) (fill o limit 0 0 t (listing_of u l s x))
+    pub then_children : (b : ℕ) → r₂ ≡ Some b → (y : Page) (w : List ℕ) → ◌≡◌ {A = Filled} (record { page = y; buffer = w }) (fill o limit 2 b v₂ (child_dirents u l x (nodes_of s))) → ◌≡◌ {A = Filled} (record { page = y; buffer = w }) (fill o limit 0 0 t (listing_of u l s x))
     then_children b g y w e = e ∙ (fill_next o limit v a 1 (dirent_of u l (46 ∷ 46 ∷ []) m) r₂ v₂ p₂ q₂ (child_dirents u l x (nodes_of s)) b g ∙ second)
 
 pub ruleset whole_walk = (first_full, second_full, then_children)

@@ -1,4 +1,5 @@
 -- The tests of a call that writes, from what the code's tests showed. Assumes nothing.
+use Rattle.std.specs.Prelude.{Result, Err}
 use mathlib.Core.Path.{◌≡◌, refl, sym, ◌∙◌}
 use Prim.Native.Nat.{ℕ, ◌≤◌, ◌<◌}
 use mathlib.Core.Bool.{Bool, true, false, not, cond}
@@ -7,42 +8,40 @@ use lib.Dec.{eqb, ltb}
 use borrow.Author.Tests.{eqb-true, not-false, lt-ltb, le-ltb}
 use Rattle.calls.specs.Refusal.{Test, test, after_tests, passed}
 use Rattle.calls.specs.declared.refusal.Refusal.{Refusal}
-use Rattle.calls.specs.declared.refusal.Answer.{Answer}
-use Rattle.calls.specs.declared.refusal.Answer.TheVariants.{Refused}
 use Rattle.calls.proofs.TestLaws.{false_true, passed_append}
 
-module _ (r : Refusal) (ts : List Test) (a : Answer) where
+module _ (r : Refusal) (ts : List Test) (a : Result ℕ Refusal) where
   -- a test that holds where it should
   module _ (b t : Bool) (q : b ≡ t) where
-    pub fails_no : b ≡ false → Refused r ≡ after_tests (test (not t) r ∷ ts) a
+    pub fails_no : b ≡ false → Err r ≡ after_tests (test (not t) r ∷ ts) a
     unfolding after_tests
     fails_no h = rw (← q, h) refl
 
-    pub passes_yes : (z : Answer) → b ≡ true → z ≡ after_tests ts a → z ≡ after_tests (test (not t) r ∷ ts) a
+    pub passes_yes : (z : Result ℕ Refusal) → b ≡ true → z ≡ after_tests ts a → z ≡ after_tests (test (not t) r ∷ ts) a
     unfolding after_tests
     passes_yes z h e = rw (← q, h) e
 
     -- two that are one test
     module _ (c : Bool) where
-      pub fails_first : b ≡ true → Refused r ≡ after_tests (test (cond t true c) r ∷ ts) a
+      pub fails_first : b ≡ true → Err r ≡ after_tests (test (cond t true c) r ∷ ts) a
       unfolding after_tests
       fails_first h = rw (← q, h) refl
 
-      pub fails_second : b ≡ false → c ≡ true → Refused r ≡ after_tests (test (cond t true c) r ∷ ts) a
+      pub fails_second : b ≡ false → c ≡ true → Err r ≡ after_tests (test (cond t true c) r ∷ ts) a
       unfolding after_tests
       fails_second h g = rw (← q, h, g) refl
 
-      pub passes_both : (z : Answer) → b ≡ false → c ≡ false → z ≡ after_tests ts a → z ≡ after_tests (test (cond t true c) r ∷ ts) a
+      pub passes_both : (z : Result ℕ Refusal) → b ≡ false → c ≡ false → z ≡ after_tests ts a → z ≡ after_tests (test (cond t true c) r ∷ ts) a
       unfolding after_tests
       passes_both z h g e = rw (← q, h, g) e
 
   -- two numbers
   module _ (m n : ℕ) where
-    pub fails_lt : m < n → Refused r ≡ after_tests (test (ltb m n) r ∷ ts) a
+    pub fails_lt : m < n → Err r ≡ after_tests (test (ltb m n) r ∷ ts) a
     unfolding after_tests
     fails_lt h = rw (lt-ltb m n h) refl
 
-    pub passes_ge : (z : Answer) → n ≤ m → z ≡ after_tests ts a → z ≡ after_tests (test (ltb m n) r ∷ ts) a
+    pub passes_ge : (z : Result ℕ Refusal) → n ≤ m → z ≡ after_tests ts a → z ≡ after_tests (test (ltb m n) r ∷ ts) a
     unfolding after_tests
     passes_ge z h e = rw (le-ltb m n h) e
 

@@ -1,15 +1,13 @@
 -- mknod, create and symlink. Assumes nothing.
-use Rattle.std.specs.Prelude.{ℕ, suc, ◌-◌, Bool, true, false, not, cond, List, [], ◌∷◌, ltb, length}
+use Rattle.std.specs.Prelude.{ℕ, suc, ◌-◌, Bool, true, false, not, cond, List, [], ◌∷◌, ltb, length, Option, Result, Some, None}
 use Rattle.std.specs.Int.Bits.{bit_and}
 use Rattle.layers.specs.Names.{Name, malformed_name}
-use Rattle.layers.specs.Kinds.{kind_number, kind_of}
+use Rattle.layers.specs.Kinds.{kind_number, number_or_zero, kind_of}
 use Rattle.layers.specs.declared.items.Record.{Record}
 use Rattle.layers.specs.declared.kinds.Kind.{Kind}
-use Rattle.layers.specs.declared.kinds.Kind.TheVariants.{Fifo, Character, Directory, Block, Regular, Symlink, Socket, NoKind}
-use Rattle.layers.specs.declared.search.Found.{Found}
+use Rattle.layers.specs.declared.kinds.Kind.TheVariants.{Fifo, Character, Directory, Block, Regular, Symlink, Socket}
 use Rattle.merge.specs.Classes.{is_whiteout}
 use Rattle.merge.specs.declared.node.Node.{Node}
-use Rattle.merge.specs.declared.seat.Seat.{Seat}
 use Rattle.calls.specs.Refusal.{Test, test}
 use Rattle.calls.specs.Lengths.{lengths_test}
 use Rattle.calls.specs.Parents.{place_numbered, numbered, unknown, is_white, is_directory_node, loaded_state}
@@ -55,7 +53,7 @@ creation_before u l s bad p x =
     ∷ parent_node u l (numbered s p)
 
 -- "17, 1, 36, 23 (only if the name has no node), 28"; `k` is the parent's place, `f` that of the name's node, `e` that of its upper whiteout's entry
-unfoldable pub creation_tests : List ℕ → List ℕ → ℕ → Found → Found → Name → Record → List Test
+unfoldable pub creation_tests : List ℕ → List ℕ → ℕ → Option ℕ → Option ℕ → Name → Record → List Test
 creation_tests t s k f e x r =
     test (is_live_name s f) Eexist
     ∷ test (is_whiteout r) Eperm
@@ -67,22 +65,22 @@ creation_tests t s k f e x r =
 -- ---- what is written
 
 -- the upper layer without the whiteout and with the parent's path
-abbrev pub prepared : List ℕ → ℕ → Found → Found → Up → Up
+abbrev pub prepared : List ℕ → ℕ → Option ℕ → Option ℕ → Up → Up
 prepared l k f e u = made_path l k (without_whiteout e f u)
 
 -- the record, its entry and the name's node; `t` is the name's seat
-unfoldable pub filled : ℕ → Seat → Name → Record → Up → Up
+unfoldable pub filled : ℕ → Result ℕ ℕ → Name → Record → Up → Up
 filled k t x r u =
     record {
       table = add_new (upper_record u k) x r u.table;
       state = named_state t (node_in u k).number x (new_record u.table) u.state;
     }
 
-unfoldable pub filled_number : ℕ → Seat → Name → Up → ℕ
+unfoldable pub filled_number : ℕ → Result ℕ ℕ → Name → Up → ℕ
 filled_number k t x u = named_number t (node_in u k).number x (new_record u.table) u.state
 
 -- at the parent's place, that of the name's node, the name's seat and the place of its upper whiteout's entry
-abbrev pub created_at : List ℕ → List ℕ → List ℕ → Name → Record → ℕ → Found → Seat → Found → Written
+abbrev pub created_at : List ℕ → List ℕ → List ℕ → Name → Record → ℕ → Option ℕ → Result ℕ ℕ → Option ℕ → Written
 created_at u l s x r k f t e =
     behind_load u s (creation_tests u s k f e x r)
     (filled k t x r (prepared l k f e (up u s)))
@@ -122,25 +120,25 @@ create_spec u l s p x permissions umask =
     creation_spec u l s (bad_mode permissions umask) p x (made_record (kind_number Regular) permissions umask 0 0)
 
 -- "mknod of a directory, symlink or no kind"
-abbrev pub not_made : Kind → Bool
-not_made Fifo = false
-not_made Character = false
-not_made Directory = true
-not_made Block = false
-not_made Regular = false
-not_made Symlink = true
-not_made Socket = false
-not_made NoKind = true
+abbrev pub not_made : Option Kind → Bool
+not_made None = true
+not_made (Some Fifo) = false
+not_made (Some Character) = false
+not_made (Some Directory) = true
+not_made (Some Block) = false
+not_made (Some Regular) = false
+not_made (Some Symlink) = true
+not_made (Some Socket) = false
 
-abbrev pub is_device : Kind → Bool
-is_device Fifo = false
-is_device Character = true
-is_device Directory = false
-is_device Block = true
-is_device Regular = false
-is_device Symlink = false
-is_device Socket = false
-is_device NoKind = false
+abbrev pub is_device : Option Kind → Bool
+is_device None = false
+is_device (Some Fifo) = false
+is_device (Some Character) = true
+is_device (Some Directory) = false
+is_device (Some Block) = true
+is_device (Some Regular) = false
+is_device (Some Symlink) = false
+is_device (Some Socket) = false
 
 unfoldable pub bad_node : ℕ → ℕ → ℕ → Bool
 bad_node kind permissions umask = cond (not_made (kind_of kind)) true (bad_mode permissions umask)
@@ -151,7 +149,7 @@ device_of kind device = cond (is_device (kind_of kind)) device 0
 
 abbrev pub mknod_spec : List ℕ → List ℕ → List ℕ → ℕ → Name → ℕ → ℕ → ℕ → ℕ → Written
 mknod_spec u l s p x kind permissions umask device =
-    creation_spec u l s (bad_node kind permissions umask) p x (made_record (kind_number (kind_of kind)) permissions umask (device_of kind device) 0)
+    creation_spec u l s (bad_node kind permissions umask) p x (made_record (number_or_zero (kind_of kind)) permissions umask (device_of kind device) 0)
 
 -- "a symlink has permissions 511 and the caller's content number"
 abbrev pub symlink_spec : List ℕ → List ℕ → List ℕ → ℕ → Name → ℕ → Written

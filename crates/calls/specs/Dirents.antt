@@ -1,9 +1,7 @@
 -- An entry of a listing, and the bytes in which it is written: the FUSE dirent. Assumes nothing.
-use Rattle.std.specs.Prelude.{Bool, cond, ℕ, ◌+◌, ◌-◌, ◌%◌, List, ◌++◌, leb, length, replicate}
+use Rattle.std.specs.Prelude.{Bool, cond, ℕ, ◌+◌, ◌-◌, ◌%◌, List, ◌++◌, leb, length, replicate, Option, Some, None}
 use Rattle.layers.specs.Bytes.{least, over, le_bytes}
 use Rattle.layers.specs.Names.{Name}
-use Rattle.calls.specs.declared.dirent.Put.{Put}
-use Rattle.calls.specs.declared.dirent.Put.TheVariants.{Next, Full}
 
 pub record Dirent : Type 0 where
   pub inode : ℕ
@@ -35,8 +33,8 @@ abbrev pub fits : ℕ → List ℕ → ℕ → Dirent → Bool
 fits limit t at d = leb (at + dirent_size d) (room_of limit t)
 
 -- what writing the entry of index `i` at `at` answers: where the next one goes, or that it does not fit
-unfoldable pub put_answer : ℕ → List ℕ → ℕ → Dirent → Put
-put_answer limit t at d = cond (fits limit t at d) (Next (at + dirent_size d)) Full
+unfoldable pub put_answer : ℕ → List ℕ → ℕ → Dirent → Option ℕ
+put_answer limit t at d = cond (fits limit t at d) (Some (at + dirent_size d)) None
 
 -- and the buffer then; an entry that does not fit changes nothing
 unfoldable pub put_dirent : ℕ → List ℕ → ℕ → ℕ → Dirent → List ℕ

@@ -1,5 +1,5 @@
 -- Import. Assumes nothing.
-use Rattle.std.specs.Prelude.{ℕ, Bool, false, not, cond, List, [], ◌∷◌, ◌++◌, eqb, length, replicate}
+use Rattle.std.specs.Prelude.{ℕ, Bool, false, not, cond, List, [], ◌∷◌, ◌++◌, eqb, length, replicate, Ok}
 use Rattle.layers.specs.Rules.{valid_test}
 use Rattle.merge.specs.Tables.{table_of}
 use Rattle.merge.specs.Stacks.{stack_from}
@@ -13,7 +13,6 @@ use Rattle.calls.specs.Refusal.{Test, test, after_tests, passed, Outcome}
 use Rattle.calls.specs.Lengths.{state_fits, lengths_test}
 use Rattle.calls.specs.Parents.{load_tests}
 use Rattle.calls.specs.declared.refusal.Refusal.TheVariants.{Einval}
-use Rattle.calls.specs.declared.refusal.Answer.TheVariants.{Fine}
 
 -- "at least one in all"
 unfoldable pub no_layer : List ℕ → List ℕ → Bool
@@ -58,6 +57,6 @@ root_tests u l = load_tests u l (rooted u l blank) 0
 abbrev pub import_spec : List ℕ → List ℕ → List ℕ → Outcome
 import_spec u l s =
     record {
-      answer = after_tests (import_tests u l s ++ root_tests u l) (Fine 0);
+      answer = after_tests (import_tests u l s ++ root_tests u l) (Ok 0);
       state = cond (passed (import_tests u l s ++ root_tests u l)) (load_bytes u l (rooted u l blank) 0) (wiped s);
     }

@@ -1,12 +1,10 @@
 -- Link. Assumes nothing.
-use Rattle.std.specs.Prelude.{◌≡◌, ℕ, suc, Bool, true, not, List, [], ◌∷◌}
+use Rattle.std.specs.Prelude.{◌≡◌, ℕ, suc, Bool, true, not, List, [], ◌∷◌, Option, Result}
 use Rattle.layers.specs.Names.{Name, malformed_name}
 use Rattle.layers.specs.Change.{entry_naming, added_entry}
-use Rattle.layers.specs.declared.search.Found.{Found}
 use Rattle.merge.specs.Nodes.{nodes_of}
 use Rattle.merge.specs.State.{find_number}
 use Rattle.merge.specs.declared.node.Node.{Node}
-use Rattle.merge.specs.declared.seat.Seat.{Seat}
 use Rattle.calls.specs.Refusal.{Test, test}
 use Rattle.calls.specs.Lengths.{lengths_test}
 use Rattle.calls.specs.Parents.{place_numbered, numbered, unknown, is_white, is_directory_node, loaded_state}
@@ -36,7 +34,7 @@ link_before u l s n p x =
     ∷ link_nodes u l (numbered s n) (numbered s p)
 
 -- "17, 36, 23 (as above), 28"; `j` is the source's place, `k` the parent's, `f` that of the name's node, `e` that of its upper whiteout's entry
-unfoldable pub link_tests : List ℕ → List ℕ → ℕ → ℕ → Found → Found → Name → List Test
+unfoldable pub link_tests : List ℕ → List ℕ → ℕ → ℕ → Option ℕ → Option ℕ → Name → List Test
 link_tests t s j k f e x =
     test (is_live_name s f) Eexist
     ∷ test (is_long x) Enametoolong
@@ -45,29 +43,29 @@ link_tests t s j k f e x =
     ∷ []
 
 -- "Link: whiteout deletion, source's missing directories, source, parent's missing directories"
-abbrev pub linkable : List ℕ → ℕ → ℕ → Found → Found → Up → Up
+abbrev pub linkable : List ℕ → ℕ → ℕ → Option ℕ → Option ℕ → Up → Up
 linkable l j k f e u = made_path l k (copied_up l j (without_whiteout e f u))
 
 -- "then the entry", and the name's node; `t` is the name's seat
-unfoldable pub linked : ℕ → ℕ → Seat → Name → Up → Up
+unfoldable pub linked : ℕ → ℕ → Result ℕ ℕ → Name → Up → Up
 linked j k t x u =
     record {
       table = added_entry u.table (entry_naming (upper_record u k) x (upper_record u j));
       state = named_state t (node_in u k).number x (upper_record u j) u.state;
     }
 
-unfoldable pub linked_number : ℕ → ℕ → Seat → Name → Up → ℕ
+unfoldable pub linked_number : ℕ → ℕ → Result ℕ ℕ → Name → Up → ℕ
 linked_number j k t x u = named_number t (node_in u k).number x (upper_record u j) u.state
 
 -- at the source's place, the parent's, that of the name's node, the name's seat and the place of its upper whiteout's entry
-abbrev pub linked_at : List ℕ → List ℕ → List ℕ → Name → ℕ → ℕ → Found → Seat → Found → Written
+abbrev pub linked_at : List ℕ → List ℕ → List ℕ → Name → ℕ → ℕ → Option ℕ → Result ℕ ℕ → Option ℕ → Written
 linked_at u l s x j k f t e =
     behind_load u s (link_tests u s j k f e x)
     (linked j k t x (linkable l j k f e (up u s)))
     (linked_number j k t x (linkable l j k f e (up u s)))
 
 -- what the function behind the load asks: the source is where it was found, unless the load changed the state
-pub record Still (b : Bool) (f : Found) (s : List ℕ) (n : ℕ) : Type 0 where
+pub record Still (b : Bool) (f : Option ℕ) (s : List ℕ) (n : ℕ) : Type 0 where
   pub still : b ≡ true → f ≡ find_number (nodes_of s) n
 
 -- ---- the call

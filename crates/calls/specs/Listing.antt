@@ -1,5 +1,6 @@
 -- A directory's listing: the list of its entries, and the call that writes a page of it. Assumes nothing.
-use Rattle.std.specs.Prelude.{cond, ℕ, ◌+◌, List, [], ◌∷◌, map, eqb}
+use Rattle.std.specs.Prelude.{cond, ℕ, ◌+◌, List, [], ◌∷◌, map, eqb, Result, Ok, Err}
+use Rattle.calls.specs.declared.refusal.Refusal.{Refusal}
 use Rattle.layers.specs.Names.{Name}
 use Rattle.layers.specs.Items.{records_of, record_at}
 use Rattle.merge.specs.Nodes.{nodes_of, node_name}
@@ -13,8 +14,6 @@ use Rattle.calls.specs.Refusal.{passed}
 use Rattle.calls.specs.Pages.{page_of, page_over}
 use Rattle.calls.specs.declared.page.Page.{Page}
 use Rattle.calls.specs.declared.refusal.Refusal.TheVariants.{Einval}
-use Rattle.calls.specs.declared.refusal.Answer.{Answer}
-use Rattle.calls.specs.declared.refusal.Answer.TheVariants.{Fine, Refused}
 
 -- "4 of type": the kind number of a record; 0 where there is none
 unfoldable pub type_of : List ℕ → List ℕ → Pair → ℕ
@@ -44,11 +43,11 @@ page_value p = cond p.remains (p.bytes + 2147483648) p.bytes
 
 -- what a listing answers, and the state and the buffer that it leaves
 pub record Listed : Type 0 where
-  pub answer : Answer
+  pub answer : Result ℕ Refusal
   pub state : List ℕ
   pub buffer : List ℕ
 
-abbrev pub listed : Answer → List ℕ → List ℕ → Listed
+abbrev pub listed : Result ℕ Refusal → List ℕ → List ℕ → Listed
 listed a s t = record { answer = a; state = s; buffer = t }
 
 -- the entries once the directory is loaded
@@ -71,5 +70,5 @@ list_loaded u l s x o size t =
 unfoldable pub list_spec : List ℕ → List ℕ → List ℕ → ℕ → ℕ → ℕ → List ℕ → Listed
 list_spec u l s x o size t =
     cond (lengths_test s u l)
-    (cond (eqb size 0) (listed (Fine 0) s t) (list_loaded u l s x o size t))
-    (listed (Refused Einval) s t)
+    (cond (eqb size 0) (listed (Ok 0) s t) (list_loaded u l s x o size t))
+    (listed (Err Einval) s t)

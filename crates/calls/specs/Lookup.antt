@@ -1,24 +1,21 @@
 -- Lookup. Assumes nothing.
-use Rattle.std.specs.Prelude.{ℕ, Bool, not, List, [], ◌∷◌}
+use Rattle.std.specs.Prelude.{ℕ, Bool, not, List, [], ◌∷◌, Option, Result, is_some}
 use Rattle.layers.specs.Names.{Name, malformed_name}
-use Rattle.layers.specs.declared.search.Found.{Found}
 use Rattle.merge.specs.Nodes.{nodes_of, node_at}
 use Rattle.merge.specs.Methods.{counted}
-use Rattle.merge.specs.State.{is_found}
 use Rattle.merge.specs.Seats.{seat_of, holder}
 use Rattle.merge.specs.Changes.{put_bytes}
 use Rattle.merge.specs.declared.node.Node.{Node}
-use Rattle.merge.specs.declared.seat.Seat.{Seat}
 use Rattle.calls.specs.Refusal.{Test, test, Outcome}
 use Rattle.calls.specs.Lengths.{lengths_test}
 use Rattle.calls.specs.Parents.{place_of, is_white, parent_tests, loaded_state, loading_call}
 use Rattle.calls.specs.declared.refusal.Refusal.TheVariants.{Enoent, Einval}
 
 -- the seat of the name `x` in the directory of number `p`, and where its node stands
-abbrev pub seat_named : List ℕ → ℕ → Name → Seat
+abbrev pub seat_named : List ℕ → ℕ → Name → Result ℕ ℕ
 seat_named s p x = seat_of (nodes_of s) p x
 
-abbrev pub name_in : List ℕ → ℕ → Name → Found
+abbrev pub name_in : List ℕ → ℕ → Name → Option ℕ
 name_in s p x = holder (seat_named s p x)
 
 -- the place of the node that `p` has under the name `x`, and that node
@@ -30,7 +27,7 @@ child_named s p x = node_at (nodes_of s) (place_named s p x)
 
 -- `p` has no node of the name; a name of over 28 bytes no node has
 abbrev pub absent : List ℕ → ℕ → Name → Bool
-absent s p x = not (is_found (name_in s p x))
+absent s p x = not (is_some (name_in s p x))
 
 -- "22, 2 unknown or whiteout parent, 20"
 unfoldable pub lookup_before : List ℕ → List ℕ → List ℕ → ℕ → Name → List Test

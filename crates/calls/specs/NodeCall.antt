@@ -1,12 +1,11 @@
 -- A node's bytes, as a call. Assumes nothing.
-use Rattle.std.specs.Prelude.{ℕ, ◌+◌, ◌*◌, not, cond, List, [], ◌∷◌, ltb, length}
+use Rattle.std.specs.Prelude.{ℕ, ◌+◌, ◌*◌, not, cond, List, [], ◌∷◌, ltb, length, Result, Ok}
+use Rattle.calls.specs.declared.refusal.Refusal.{Refusal}
 use Rattle.layers.specs.Bytes.{part, over}
 use Rattle.calls.specs.Refusal.{Test, test, after_tests, passed}
 use Rattle.calls.specs.Lengths.{state_fits}
 use Rattle.calls.specs.Parents.{unknown, place_numbered}
 use Rattle.calls.specs.declared.refusal.Refusal.TheVariants.{Enoent, Einval}
-use Rattle.calls.specs.declared.refusal.Answer.{Answer}
-use Rattle.calls.specs.declared.refusal.Answer.TheVariants.{Fine}
 
 -- "2 unknown, then 22 if `out` has under 52 bytes", behind the lengths
 unfoldable pub node_tests : List ℕ → ℕ → List ℕ → List Test
@@ -16,8 +15,8 @@ node_tests s x out =
     ∷ test (ltb (length out) 52) Einval
     ∷ []
 
-abbrev pub node_answer : List ℕ → ℕ → List ℕ → Answer
-node_answer s x out = after_tests (node_tests s x out) (Fine 0)
+abbrev pub node_answer : List ℕ → ℕ → List ℕ → Result ℕ Refusal
+node_answer s x out = after_tests (node_tests s x out) (Ok 0)
 
 -- "else the node's 52 bytes stand in `out`, and what follows them, on a refusal all of `out`, is untouched"
 unfoldable pub node_out : List ℕ → ℕ → List ℕ → List ℕ

@@ -1,9 +1,7 @@
 -- A page: the run of a listing's entries that fits, and its bytes. Assumes nothing.
-use Rattle.std.specs.Prelude.{Bool, true, false, cond, ◌≡◌, ℕ, suc, ◌+◌, ◌-◌, ◌≤◌, List, [], ◌∷◌, ◌++◌, leb, ltb, length, take, drop}
+use Rattle.std.specs.Prelude.{Bool, true, false, cond, ◌≡◌, ℕ, suc, ◌+◌, ◌-◌, ◌≤◌, List, [], ◌∷◌, ◌++◌, leb, ltb, length, take, drop, Option, Some}
 use Rattle.layers.specs.Bytes.{over}
 use Rattle.calls.specs.Dirents.{Dirent, dirent_size, dirent_bytes, room_of, fits, put_answer, put_dirent}
-use Rattle.calls.specs.declared.dirent.Put.{Put}
-use Rattle.calls.specs.declared.dirent.Put.TheVariants.{Next}
 use Rattle.calls.specs.declared.page.Page.{Page}
 
 -- "entries are written as long as the next fits": how many of these fit in `room`
@@ -44,8 +42,8 @@ pub record Paged (limit o : ℕ) (t : List ℕ) (ds : List Dirent) (p : Page) (u
 -- ---- what the private functions promise
 
 -- one entry: below the offset it is passed over
-unfoldable pub entry_answer : ℕ → ℕ → List ℕ → ℕ → ℕ → Dirent → Put
-entry_answer o limit t at i d = cond (ltb i o) (Next at) (put_answer limit t at d)
+unfoldable pub entry_answer : ℕ → ℕ → List ℕ → ℕ → ℕ → Dirent → Option ℕ
+entry_answer o limit t at i d = cond (ltb i o) (Some at) (put_answer limit t at d)
 
 unfoldable pub entry_over : ℕ → ℕ → List ℕ → ℕ → ℕ → Dirent → List ℕ
 entry_over o limit t at i d = cond (ltb i o) t (put_dirent limit t at i d)

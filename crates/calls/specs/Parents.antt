@@ -1,23 +1,20 @@
 -- The node that a call names by its number: known, whiteout, a directory; and its load. Assumes nothing.
-use Rattle.std.specs.Prelude.{ℕ, Bool, false, not, cond, List, [], ◌∷◌, ◌++◌, eqb, length, get_or}
-use Rattle.layers.specs.declared.search.Found.{Found}
-use Rattle.layers.specs.declared.search.Found.TheVariants.{At, Missing}
+use Rattle.std.specs.Prelude.{ℕ, Bool, false, not, cond, List, [], ◌∷◌, ◌++◌, eqb, length, get_or, Option, Some, None, Result, Ok, is_some}
+use Rattle.merge.specs.declared.load.LoadError.{LoadError}
 use Rattle.merge.specs.Nodes.{no_pair, nodes_of, node_at}
-use Rattle.merge.specs.State.{find_number, is_found, those, children_of}
+use Rattle.merge.specs.State.{find_number, those, children_of}
 use Rattle.merge.specs.Tables.{table_of}
 use Rattle.merge.specs.Scan.{is_walked}
 use Rattle.merge.specs.Load.{load_errno, load_answer, load_bytes}
 use Rattle.merge.specs.declared.stacks.Pair.{Pair}
 use Rattle.merge.specs.declared.node.Node.{Node}
-use Rattle.merge.specs.declared.load.Loading.{Loading}
 use Rattle.calls.specs.Refusal.{Test, test, after_tests, passed, Outcome}
 use Rattle.calls.specs.declared.refusal.Refusal.TheVariants.{Enoent, Enotdir, Enfile}
-use Rattle.calls.specs.declared.refusal.Answer.TheVariants.{Fine}
 
 -- the place found; where nothing is, a place that no node has
-unfoldable pub place_of : List Node → Found → ℕ
-place_of ns (At k) = k
-place_of ns Missing = length ns
+unfoldable pub place_of : List Node → Option ℕ → ℕ
+place_of ns (Some k) = k
+place_of ns None = length ns
 
 -- the place of the node of number `x`, and that node
 abbrev pub place_numbered : List ℕ → ℕ → ℕ
@@ -28,7 +25,7 @@ numbered s x = node_at (nodes_of s) (place_numbered s x)
 
 -- no resident node has the number `x`
 abbrev pub unknown : List ℕ → ℕ → Bool
-unknown s x = not (is_found (find_number (nodes_of s) x))
+unknown s x = not (is_some (find_number (nodes_of s) x))
 
 -- "whiteout mark"
 unfoldable pub is_white : Node → Bool
@@ -50,7 +47,7 @@ parent_tests u l s x =
     ∷ []
 
 -- a load is refused where its number is not 0
-abbrev pub is_refused : Loading → Bool
+abbrev pub is_refused : Result (Unit {0}) LoadError → Bool
 is_refused a = not (eqb (load_errno a) 0)
 
 -- "load (23)" of the directory whose node stands at place `k`
@@ -66,7 +63,7 @@ loaded_state u l s x = load_bytes u l s (place_numbered s x)
 abbrev pub loading_call : List ℕ → List ℕ → List ℕ → ℕ → List Test → List Test → List ℕ → ℕ → Outcome
 loading_call u l s x before behind changed v =
     record {
-      answer = after_tests (before ++ (load_tests u l s (place_numbered s x) ++ behind)) (Fine v);
+      answer = after_tests (before ++ (load_tests u l s (place_numbered s x) ++ behind)) (Ok v);
       state = cond (passed before) (cond (passed (load_tests u l s (place_numbered s x) ++ behind)) changed (loaded_state u l s x)) s;
     }
 

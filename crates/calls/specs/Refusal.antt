@@ -1,9 +1,7 @@
 -- The refusals with their numbers, a call's order of tests as a list, and what a call answers. Assumes nothing.
-use Rattle.std.specs.Prelude.{ℕ, ◌*◌, Bool, true, false, cond, List, [], ◌∷◌}
+use Rattle.std.specs.Prelude.{codes, ℕ, ◌*◌, Bool, true, false, cond, List, [], ◌∷◌, Result, Ok, Err}
 use Rattle.calls.specs.declared.refusal.Refusal.{Refusal}
 use Rattle.calls.specs.declared.refusal.Refusal.TheVariants.{Eperm, Enoent, Eexist, Enotdir, Einval, Enfile, Enospc, Erofs, Enametoolong}
-use Rattle.calls.specs.declared.refusal.Answer.{Answer}
-use Rattle.calls.specs.declared.refusal.Answer.TheVariants.{Fine, Refused}
 
 -- "1 EPERM link of a directory; mknod of a whiteout. 2 ENOENT node unknown or whiteout; name absent or whiteout. 17 EEXIST creation or link on a live name.
 -- 20 ENOTDIR parent or listed node is no directory. 22 EINVAL malformed name or argument, bad layers. 23 ENFILE node places or numbers don't suffice.
@@ -19,6 +17,18 @@ refusal_number Enospc = 28
 refusal_number Erofs = 30
 refusal_number Enametoolong = 36
 
+-- the words of a refusal
+abbrev pub refusal_words : Refusal → List ℕ
+refusal_words Eperm = codes "operation not permitted"
+refusal_words Enoent = codes "no such file or directory"
+refusal_words Eexist = codes "file exists"
+refusal_words Enotdir = codes "not a directory"
+refusal_words Einval = codes "invalid argument"
+refusal_words Enfile = codes "too many nodes"
+refusal_words Enospc = codes "no space left in the upper layer"
+refusal_words Erofs = codes "read-only file system"
+refusal_words Enametoolong = codes "file name too long"
+
 -- one test of "each call's order of tests": the refusal that is given where it fails
 pub record Test : Type 0 where
   pub fails : Bool
@@ -28,9 +38,9 @@ abbrev pub test : Bool → Refusal → Test
 test b r = record { fails = b; gives = r }
 
 -- the first test that fails decides; where none does, the answer stands
-unfoldable pub after_tests : List Test → Answer → Answer
+unfoldable pub after_tests : List Test → Result ℕ Refusal → Result ℕ Refusal
 after_tests [] a = a
-after_tests (t ∷ ts) a = cond t.fails (Refused t.gives) (after_tests ts a)
+after_tests (t ∷ ts) a = cond t.fails (Err t.gives) (after_tests ts a)
 
 -- no test fails
 unfoldable pub passed : List Test → Bool
@@ -39,15 +49,15 @@ passed (t ∷ ts) = cond t.fails false (passed ts)
 
 -- what a call answers, and the state that it leaves
 pub record Outcome : Type 0 where
-  pub answer : Answer
+  pub answer : Result ℕ Refusal
   pub state : List ℕ
 
 -- "Answers in 32 bits are an errno, 0 for success."
-abbrev pub errno_of : Answer → ℕ
-errno_of (Fine v) = 0
-errno_of (Refused r) = refusal_number r
+abbrev pub errno_of : Result ℕ Refusal → ℕ
+errno_of (Ok v) = 0
+errno_of (Err r) = refusal_number r
 
 -- "Answers in 64 bits have the errno in the upper 32 bits and the value in the lower 32; a refusal's value is 0."
-abbrev pub packed : Answer → ℕ
-packed (Fine v) = v
-packed (Refused r) = 4294967296 * refusal_number r
+abbrev pub packed : Result ℕ Refusal → ℕ
+packed (Ok v) = v
+packed (Err r) = 4294967296 * refusal_number r

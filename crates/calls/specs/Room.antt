@@ -1,14 +1,12 @@
 -- 28, decided before anything is written: what the whole call will need and free. Assumes nothing.
-use Rattle.std.specs.Prelude.{ℕ, zero, suc, ◌+◌, Bool, true, false, not, cond, List, [], ◌∷◌, eqb, ltb, length}
+use Rattle.std.specs.Prelude.{ℕ, zero, suc, ◌+◌, Bool, true, false, not, cond, List, [], ◌∷◌, eqb, ltb, length, Option, Some, None, is_some}
 use Rattle.layers.specs.Names.{Name}
 use Rattle.layers.specs.Items.{records_of, entries_of, entry_at}
 use Rattle.layers.specs.Search.{one, count_if, search_of, naming, used_entries, used_records}
-use Rattle.layers.specs.declared.search.Found.{Found}
-use Rattle.layers.specs.declared.search.Found.TheVariants.{At, Missing}
 use Rattle.merge.specs.Nodes.{nodes_of, node_at}
-use Rattle.merge.specs.State.{is_found}
 use Rattle.calls.specs.Parents.{top_of}
 use Rattle.calls.specs.Upper.{in_upper, parent_place}
+use Rattle.calls.specs.declared.room.MissingFrom.{MissingFrom}
 
 -- ---- what is made
 
@@ -20,6 +18,10 @@ missing_from (suc m) s k = cond (in_upper (node_at (nodes_of s) k)) [] (k ∷ mi
 -- a file, and at most 16 directories above it
 abbrev pub missing : List ℕ → ℕ → List ℕ
 missing s k = missing_from 17 s k
+
+-- those that a walk has left
+abbrev pub places_left : MissingFrom → List ℕ
+places_left w = missing_from w.left w.s.now w.place
 
 unfoldable pub is_in : ℕ → List ℕ → Bool
 is_in x [] = false
@@ -40,22 +42,22 @@ missing_either s j k = length (missing s k) + missing_beside s j k
 -- ---- what is freed
 
 -- the upper entry of the whiteout that a creation or link at the name `x` deletes; `k` is the parent's place, `f` that of the name's node
-unfoldable pub whiteout_entry : List ℕ → List ℕ → ℕ → Found → Name → Found
-whiteout_entry t s k (At j) x = cond (in_upper (node_at (nodes_of s) j)) (search_of (entries_of t) (top_of (node_at (nodes_of s) k)).number x) Missing
-whiteout_entry t s k Missing x = Missing
+unfoldable pub whiteout_entry : List ℕ → List ℕ → ℕ → Option ℕ → Name → Option ℕ
+whiteout_entry t s k (Some j) x = cond (in_upper (node_at (nodes_of s) j)) (search_of (entries_of t) (top_of (node_at (nodes_of s) k)).number x) None
+whiteout_entry t s k None x = None
 
-abbrev pub freed_entries : Found → ℕ
-freed_entries e = one (is_found e)
+abbrev pub freed_entries : Option ℕ → ℕ
+freed_entries e = one (is_some e)
 
 -- "a record goes with its last entry (whiteouts may share one)"
-unfoldable pub freed_records : List ℕ → Found → ℕ
-freed_records t (At e) = one (eqb (naming (entry_at (entries_of t) e).child (entries_of t)) 1)
-freed_records t Missing = 0
+unfoldable pub freed_records : List ℕ → Option ℕ → ℕ
+freed_records t (Some e) = one (eqb (naming (entry_at (entries_of t) e).child (entries_of t)) 1)
+freed_records t None = 0
 
 -- ---- "upper would hold over 128 records or entries"; "28 is decided on the numbers after the whole call, so freed places count as free"
 
 -- so many records and entries are made, and the entry at `e` goes
-unfoldable pub overfull : List ℕ → Found → ℕ → ℕ → Bool
+unfoldable pub overfull : List ℕ → Option ℕ → ℕ → ℕ → Bool
 overfull t e records entries =
     cond (ltb (128 + freed_records t e) (used_records (records_of t) + records)) true
     (ltb (128 + freed_entries e) (used_entries (entries_of t) + entries))

@@ -1,5 +1,5 @@
 -- What a creation, a copy-up and a link write: records and entries of the upper layer, and the stacks of the nodes. Assumes nothing.
-use Rattle.std.specs.Prelude.{ℕ, zero, suc, Bool, false, cond, List, [], ◌∷◌, eqb}
+use Rattle.std.specs.Prelude.{ℕ, zero, suc, Bool, false, cond, List, [], ◌∷◌, eqb, Option, Some, None, Result, Ok, Err}
 use Rattle.layers.specs.Names.{Name}
 use Rattle.layers.specs.Kinds.{kind_number}
 use Rattle.layers.specs.Items.{records_of, record_at}
@@ -7,8 +7,6 @@ use Rattle.layers.specs.Search.{free_record_place}
 use Rattle.layers.specs.Change.{entry_naming, added_entry, added_record, dropped_entry}
 use Rattle.layers.specs.declared.items.Record.{Record}
 use Rattle.layers.specs.declared.kinds.Kind.TheVariants.{Directory}
-use Rattle.layers.specs.declared.search.Found.{Found}
-use Rattle.layers.specs.declared.search.Found.TheVariants.{At, Missing}
 use Rattle.merge.specs.Nodes.{no_pair, nodes_of, node_at, node_name}
 use Rattle.merge.specs.Methods.{with_stack, with_white, topped, alone}
 use Rattle.merge.specs.Changes.{put_bytes, seated_number, seated_bytes}
@@ -16,8 +14,6 @@ use Rattle.merge.specs.Tables.{table_of}
 use Rattle.merge.specs.Stacks.{pair, stack_from}
 use Rattle.merge.specs.Load.{new_node}
 use Rattle.merge.specs.declared.node.Node.{Node}
-use Rattle.merge.specs.declared.seat.Seat.{Seat}
-use Rattle.merge.specs.declared.seat.Seat.TheVariants.{Held, Open}
 use Rattle.calls.specs.Parents.{place_numbered, top_of, is_directory_node}
 
 -- what such a call has in hand: the upper layer's table and the state
@@ -46,9 +42,9 @@ upper_record u k = (top_of (node_in u k)).number
 -- ---- "Each new record and entry takes the lowest free place."
 
 -- the number of the next new record, 0 where no place is free
-unfoldable pub record_number : Found → ℕ
-record_number (At i) = i
-record_number Missing = 0
+unfoldable pub record_number : Option ℕ → ℕ
+record_number (Some i) = i
+record_number None = 0
 
 abbrev pub new_record : List ℕ → ℕ
 new_record t = record_number (free_record_place (records_of t))
@@ -134,14 +130,14 @@ copied_up l k u =
 -- ---- "Creating over a whiteout deletes the whiteout's entry if it is in the upper layer; a record goes with its last entry"
 
 -- the state in which the name's node has no record
-unfoldable pub emptied : Found → List ℕ → List ℕ
-emptied (At j) s = put_bytes s j (with_stack (node_at (nodes_of s) j) (no_pair ∷ no_pair ∷ no_pair ∷ no_pair ∷ []) 0)
-emptied Missing s = s
+unfoldable pub emptied : Option ℕ → List ℕ → List ℕ
+emptied (Some j) s = put_bytes s j (with_stack (node_at (nodes_of s) j) (no_pair ∷ no_pair ∷ no_pair ∷ no_pair ∷ []) 0)
+emptied None s = s
 
 -- the whiteout's entry found at `e` goes; `f` is where the name's node stands
-unfoldable pub without_whiteout : Found → Found → Up → Up
-without_whiteout (At e) f u = record { table = dropped_entry u.table e; state = emptied f u.state }
-without_whiteout Missing f u = u
+unfoldable pub without_whiteout : Option ℕ → Option ℕ → Up → Up
+without_whiteout (Some e) f u = record { table = dropped_entry u.table e; state = emptied f u.state }
+without_whiteout None f u = u
 
 -- ---- the name's node
 
@@ -153,10 +149,10 @@ unfoldable pub given_record : List ℕ → ℕ → ℕ → List ℕ
 given_record s j c = put_bytes s j (with_white (alone (node_at (nodes_of s) j) (pair 0 c)) 0)
 
 -- so where the name has a node; one without gets it at the name's seat
-unfoldable pub named_state : Seat → ℕ → Name → ℕ → List ℕ → List ℕ
-named_state (Held j) p x c s = given_record s j c
-named_state (Open k) p x c s = seated_bytes s (upper_alone p x c) k
+unfoldable pub named_state : Result ℕ ℕ → ℕ → Name → ℕ → List ℕ → List ℕ
+named_state (Ok j) p x c s = given_record s j c
+named_state (Err k) p x c s = seated_bytes s (upper_alone p x c) k
 
-unfoldable pub named_number : Seat → ℕ → Name → ℕ → List ℕ → ℕ
-named_number (Held j) p x c s = (node_at (nodes_of s) j).number
-named_number (Open k) p x c s = seated_number s k
+unfoldable pub named_number : Result ℕ ℕ → ℕ → Name → ℕ → List ℕ → ℕ
+named_number (Ok j) p x c s = (node_at (nodes_of s) j).number
+named_number (Err k) p x c s = seated_number s k

@@ -1,16 +1,16 @@
 // Copy-up: the missing directories of a path, made from the root down, and a node of a lower layer made in the upper one.
-ghost use Rattle.std.specs.Prelude.{◌≡◌, length, take};
+ghost use Rattle.std.specs.Prelude.{◌≡◌, Ok};
 ghost use Rattle.calls.specs.Refusal.{after_tests};
 ghost use Rattle.calls.specs.Parents.{place_numbered};
-ghost use Rattle.calls.specs.Upper.{up, new_record, add_new, directory_like, file_like, added_for, made_directory, made_upper, copied_file, copied_up};
+ghost use Rattle.calls.specs.Upper.{up, new_record, directory_like, file_like, added_for, made_directory, made_upper, copied_file, copied_up};
 ghost use Rattle.calls.specs.CopyUp.{copy_up_before, copy_up_spec};
-ghost use Rattle.calls.specs.declared.refusal.Answer.TheVariants.{Fine};
 
-use crate::refusal::{Answer, Refusal};
+use crate::refusal::Refusal;
 use crate::{lengths, parent, room, upper};
-use layers::items::Record;
-use layers::search::Found;
-use merge::{change, node, state};
+use layers::items::{self, Record, Table};
+use layers::kinds::Kind;
+use merge::tables::Layers;
+use merge::{change, state};
 
 // ---- the records that are made
 
@@ -18,17 +18,10 @@ use merge::{change, node, state};
 fn directory_like(r: Record) -> Record
     ensures { result ≡ directory_like r }
 {
-    let opaque: u8 = 0;
     Record {
-        number: 0,
-        kind: 4,
-        opaque: opaque,
-        mark: 0,
+        kind: u8::from(Kind::Directory),
         permissions: r.permissions,
-        links: 0,
-        device: 0,
-        size: 0,
-        content: 0,
+        ..items::no_record()
     }
 }
 
@@ -38,56 +31,42 @@ fn file_like(r: Record) -> Record
 {
     Record {
         number: 0,
-        kind: r.kind,
         opaque: 0,
         mark: 0,
-        permissions: r.permissions,
         links: 0,
-        device: r.device,
-        size: r.size,
-        content: r.content,
+        ..r
     }
-}
-
-// Adds a record under the first `m` bytes of `x`, all of them where there are fewer, in the upper directory `d`.
-fn add_named(upper: &mut [u8], d: u8, x: [u8; 28], m: usize, r: Record) -> u8
-    requires { length upper.old ≡ 8192 }
-    ensures { (result ≡ new_record upper.old) × (upper.new ≡ add_new d (take m x) r upper.old) }
-{
-    if 28 < m {
-        return upper::add_new(upper, d, &x, r);
-    }
-    let z = 0;
-    upper::add_new(upper, d, &x[z..m], r)
 }
 
 // Adds a record for the node at place `k`, below its parent's upper record under the node's name.
-fn add_for(s: &[u8], upper: &mut [u8], k: usize, r: Record) -> u8
-    requires { length upper.old ≡ 8192 }
+fn add_for(s: &[u8], upper: &mut Table, k: usize, r: Record) -> u8
     ensures { (result ≡ new_record upper.old) × (upper.new ≡ added_for k r (up upper.old s.now)) }
 {
     let n = state::node_at(s, k);
-    let d = upper::top_of(parent::node_numbered(s, node::wide(n.parent)));
-    let x = n.name;
-    add_named(upper, d.number, x, layers::bytes::wide(n.length), r)
+    let d = upper::top_of(parent::node_numbered(s, u64::from(n.parent)));
+    upper::add_new(upper, d.number, &n.name[..usize::from(n.length).min(28)], r)
 }
 
 // ---- directories
 
 // One missing directory, whose parent is there.
-fn make_directory(s: &mut [u8], upper: &mut [u8], lower: &[u8], k: usize)
-    requires { length upper.old ≡ 8192 }
+fn make_directory(s: &mut [u8], upper: &mut Table, lower: &[u8], k: usize)
     ensures { (upper.new ≡ (made_directory lower.now k (up upper.old s.old)).table) × (s.new ≡ (made_directory lower.now k (up upper.old s.old)).state) }
 {
     let n = state::node_at(s, k);
-    let r = directory_like(upper::top_record(upper, lower, n));
+    let r = directory_like(upper::top_record(Layers { upper, lower }, n));
     let c = add_for(s, upper, k, r);
     change::put_node(s, k, n.topped(upper::upper_pair(c)));
 }
 
 // The directory at place `k` in the upper layer, after the missing ones above it; at most `depth` of them.
-pub(crate) fn create_upper_dir(s: &mut [u8], upper: &mut [u8], lower: &[u8], k: usize, depth: usize)
-    requires { length upper.old ≡ 8192 }
+pub(crate) fn create_upper_dir(
+    s: &mut [u8],
+    upper: &mut Table,
+    lower: &[u8],
+    k: usize,
+    depth: usize,
+)
     ensures { (upper.new ≡ (made_upper depth lower.now k (up upper.old s.old)).table) × (s.new ≡ (made_upper depth lower.now k (up upper.old s.old)).state) }
 {
     if depth == 0 {
@@ -97,7 +76,7 @@ pub(crate) fn create_upper_dir(s: &mut [u8], upper: &mut [u8], lower: &[u8], k: 
     if upper::in_upper(n) {
         return;
     }
-    let j = parent::place_numbered(s, node::wide(n.parent));
+    let j = parent::place_numbered(s, u64::from(n.parent));
     create_upper_dir(s, upper, lower, j, depth - 1);
     make_directory(s, upper, lower, k);
 }
@@ -105,30 +84,28 @@ pub(crate) fn create_upper_dir(s: &mut [u8], upper: &mut [u8], lower: &[u8], k: 
 // ---- files
 
 // A file whose parent is there.
-fn copy_file(s: &mut [u8], upper: &mut [u8], lower: &[u8], k: usize)
-    requires { length upper.old ≡ 8192 }
+fn copy_file(s: &mut [u8], upper: &mut Table, lower: &[u8], k: usize)
     ensures { (upper.new ≡ (copied_file lower.now k (up upper.old s.old)).table) × (s.new ≡ (copied_file lower.now k (up upper.old s.old)).state) }
 {
     let n = state::node_at(s, k);
-    let r = file_like(upper::top_record(upper, lower, n));
+    let r = file_like(upper::top_record(Layers { upper, lower }, n));
     let c = add_for(s, upper, k, r);
     change::put_node(s, k, n.alone(upper::upper_pair(c)));
 }
 
 // The node at place `k` in the upper layer, after the missing directories above it.
-pub(crate) fn copy_node_up(s: &mut [u8], upper: &mut [u8], lower: &[u8], k: usize)
-    requires { length upper.old ≡ 8192 }
+pub(crate) fn copy_node_up(s: &mut [u8], upper: &mut Table, lower: &[u8], k: usize)
     ensures { (upper.new ≡ (copied_up lower.now k (up upper.old s.old)).table) × (s.new ≡ (copied_up lower.now k (up upper.old s.old)).state) }
 {
     let n = state::node_at(s, k);
     if upper::in_upper(n) {
         return;
     }
-    if parent::is_directory(upper, lower, n) {
+    if parent::is_directory(Layers { upper, lower }, n) {
         create_upper_dir(s, upper, lower, k, 16);
         return;
     }
-    let j = parent::place_numbered(s, node::wide(n.parent));
+    let j = parent::place_numbered(s, u64::from(n.parent));
     create_upper_dir(s, upper, lower, j, 16);
     copy_file(s, upper, lower, k);
 }
@@ -136,36 +113,31 @@ pub(crate) fn copy_node_up(s: &mut [u8], upper: &mut [u8], lower: &[u8], k: usiz
 // ---- the call
 
 // The place of the live node of number `x`, where there is an upper layer: 22, 2 unknown, 30, 2 whiteout.
-fn copied_place(s: &[u8], upper: &[u8], lower: &[u8], x: u64) -> Answer
-    ensures { result ≡ after_tests (copy_up_before upper.now lower.now s.now x) (Fine (place_numbered s.now x)) }
+fn copied_place(s: &[u8], ls: Layers<'_>, x: u64) -> Result<usize, Refusal>
+    ensures { result ≡ after_tests (copy_up_before ls.entry.upper.now ls.entry.lower.now s.now x) (Ok (place_numbered s.now x)) }
 {
-    if !lengths::lengths_fit(s, upper, lower) {
-        return Answer::Refused(Refusal::Einval);
+    if !lengths::lengths_fit(s, ls) {
+        return Err(Refusal::Einval);
     }
-    let f = state::find(s, x);
-    let Found::At(k) = f else {
-        return Answer::Refused(Refusal::Enoent);
-    };
-    if upper.len() != 8192 {
-        return Answer::Refused(Refusal::Erofs);
+    let k = state::find(s, x).ok_or(Refusal::Enoent)?;
+    if ls.upper.len() != 8192 {
+        return Err(Refusal::Erofs);
     }
     if parent::is_white(state::node_at(s, k)) {
-        return Answer::Refused(Refusal::Enoent);
+        return Err(Refusal::Enoent);
     }
-    Answer::Fine(k)
+    Ok(k)
 }
 
-pub fn copy_up(s: &mut [u8], upper: &mut [u8], lower: &[u8], x: u64) -> Answer
+pub fn copy_up(s: &mut [u8], upper: &mut [u8], lower: &[u8], x: u64) -> Result<usize, Refusal>
     ensures { (result ≡ (copy_up_spec upper.old lower.now s.old x).answer) × (s.new ≡ (copy_up_spec upper.old lower.now s.old x).state) × (upper.new ≡ (copy_up_spec upper.old lower.now s.old x).upper) }
 {
-    let f = copied_place(s, upper, lower, x);
-    let Answer::Fine(k) = f else {
-        return f;
-    };
+    let k = copied_place(s, Layers { upper, lower }, x)?;
+    let upper = upper.as_mut_array().unwrap();
     let m = room::missing_count(s, k);
-    if room::overfull(upper, Found::Missing, m, m) {
-        return Answer::Refused(Refusal::Enospc);
+    if room::overfull(upper, None, m, m) {
+        return Err(Refusal::Enospc);
     }
     copy_node_up(s, upper, lower, k);
-    Answer::Fine(0)
+    Ok(0)
 }

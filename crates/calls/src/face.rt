@@ -12,11 +12,12 @@ ghost use Rattle.calls.specs.Forget.{forget_call};
 ghost use Rattle.calls.specs.NodeCall.{node_answer, node_out};
 
 use crate::{copy_up, count, creation, forget, import, link, listing, lookup, node, refusal};
+use merge::tables::Layers;
 
 pub fn overlay_import<'a>(state: &mut [u8], upper: &'a [u8], lower: &'a [u8]) -> u32
     ensures { (result ≡ errno_of (import_spec upper.now lower.now state.old).answer) × (state.new ≡ (import_spec upper.now lower.now state.old).state) }
 {
-    refusal::errno_of(import::import(state, upper, lower))
+    refusal::errno_of(import::import(state, Layers { upper, lower }))
 }
 
 pub fn overlay_lookup<'a>(
@@ -28,13 +29,13 @@ pub fn overlay_lookup<'a>(
 ) -> u64
     ensures { (result ≡ packed (lookup_spec upper.now lower.now state.old parent name.now).answer) × (state.new ≡ (lookup_spec upper.now lower.now state.old parent name.now).state) }
 {
-    refusal::packed(lookup::lookup(state, upper, lower, parent, name))
+    refusal::packed(lookup::lookup(state, Layers { upper, lower }, parent, name))
 }
 
 pub fn overlay_count<'a>(state: &mut [u8], upper: &'a [u8], lower: &'a [u8], node: u64) -> u64
     ensures { (result ≡ packed (count_spec upper.now lower.now state.old node).answer) × (state.new ≡ (count_spec upper.now lower.now state.old node).state) }
 {
-    refusal::packed(count::count_entries_and_whiteout(state, upper, lower, node))
+    refusal::packed(count::count_entries_and_whiteout(state, Layers { upper, lower }, node))
 }
 
 pub fn overlay_mknod(
@@ -120,7 +121,7 @@ pub fn overlay_list<'a>(
 ) -> u64
     ensures { (result ≡ packed (list_spec upper.now lower.now state.old node offset size buffer.old).answer) × (state.new ≡ (list_spec upper.now lower.now state.old node offset size buffer.old).state) × (buffer.new ≡ (list_spec upper.now lower.now state.old node offset size buffer.old).buffer) }
 {
-    refusal::packed(listing::listing(state, upper, lower, node, offset, size, buffer))
+    refusal::packed(listing::listing(state, Layers { upper, lower }, node, offset, size, buffer))
 }
 
 pub fn overlay_forget(state: &mut [u8], node: u64, amount: u64)

@@ -2,6 +2,8 @@
 ghost use Rattle.std.specs.Prelude.{◌≡◌};
 ghost use Rattle.calls.specs.Lengths.{state_fits, upper_fits, lower_fits, lengths_test};
 
+use merge::tables::Layers;
+
 pub fn state_fits(s: &[u8]) -> bool
     ensures { result ≡ state_fits s.now }
 {
@@ -11,35 +13,17 @@ pub fn state_fits(s: &[u8]) -> bool
 pub fn upper_fits(upper: &[u8]) -> bool
     ensures { result ≡ upper_fits upper.now }
 {
-    if upper.len() == 0 {
-        return true;
-    }
-    upper.len() == 8192
+    matches!(upper.len(), 0 | 8192)
 }
 
 pub fn lower_fits(lower: &[u8]) -> bool
     ensures { result ≡ lower_fits lower.now }
 {
-    if lower.len() == 0 {
-        return true;
-    }
-    if lower.len() == 8192 {
-        return true;
-    }
-    if lower.len() == 16384 {
-        return true;
-    }
-    lower.len() == 24576
+    matches!(lower.len(), 0 | 8192 | 16384 | 24576)
 }
 
-pub fn lengths_fit(s: &[u8], upper: &[u8], lower: &[u8]) -> bool
-    ensures { result ≡ lengths_test s.now upper.now lower.now }
+pub fn lengths_fit(s: &[u8], ls: Layers<'_>) -> bool
+    ensures { result ≡ lengths_test s.now ls.entry.upper.now ls.entry.lower.now }
 {
-    if !state_fits(s) {
-        return false;
-    }
-    if !upper_fits(upper) {
-        return false;
-    }
-    lower_fits(lower)
+    state_fits(s) && upper_fits(ls.upper) && lower_fits(ls.lower)
 }

@@ -2,62 +2,55 @@
 ghost use Rattle.std.specs.Prelude.{◌≡◌, ◌≤◌};
 ghost use Rattle.calls.specs.Listing.{page_value, listed, list_loaded, list_spec};
 
-use crate::page::Page;
-use crate::refusal::{Answer, Refusal};
+use crate::page::{Page, Window};
+use crate::refusal::Refusal;
 use crate::{lengths, page, parent};
+use merge::tables::Layers;
 
 // "bytes written + 2147483648 where entries remain"
 fn page_value(p: Page) -> usize
     requires { p.bytes ≤ 240518168632 }
     ensures { result ≡ page_value p }
 {
-    let n = p.bytes;
     if p.remains {
-        return n + 2147483648;
+        return p.bytes + 2147483648;
     }
-    n
+    p.bytes
 }
 
 // A page of size above 0.
-fn list_loaded<'a>(
+fn list_loaded(
     s: &mut [u8],
-    upper: &'a [u8],
-    lower: &'a [u8],
+    ls: Layers<'_>,
     x: u64,
     offset: u64,
     size: u64,
     buf: &mut [u8],
-) -> Answer
-    ensures { listed result s.new buf.new ≡ list_loaded upper.now lower.now s.old x offset size buf.old }
+) -> Result<usize, Refusal>
+    ensures { listed result s.new buf.new ≡ list_loaded ls.entry.upper.now ls.entry.lower.now s.old x offset size buf.old }
 {
-    let f = parent::parent_place(s, upper, lower, x);
-    let Answer::Fine(k) = f else {
-        return f;
-    };
-    let a = parent::load_at(s, upper, lower, k);
-    let Answer::Fine(_) = a else {
-        return a;
-    };
-    let p = page::write_page(buf, size as usize, offset, s, upper, lower, x);
-    Answer::Fine(page_value(p))
+    let k = parent::parent_place(s, ls, x)?;
+    parent::load_at(s, ls, k)?;
+    let limit = size as usize;
+    let p = page::write_page(buf, Window { limit, offset }, s, ls, x);
+    Ok(page_value(p))
 }
 
-pub fn listing<'a>(
+pub fn listing(
     s: &mut [u8],
-    upper: &'a [u8],
-    lower: &'a [u8],
+    ls: Layers<'_>,
     x: u64,
     offset: u64,
     size: u64,
     buf: &mut [u8],
-) -> Answer
-    ensures { listed result s.new buf.new ≡ list_spec upper.now lower.now s.old x offset size buf.old }
+) -> Result<usize, Refusal>
+    ensures { listed result s.new buf.new ≡ list_spec ls.entry.upper.now ls.entry.lower.now s.old x offset size buf.old }
 {
-    if !lengths::lengths_fit(s, upper, lower) {
-        return Answer::Refused(Refusal::Einval);
+    if !lengths::lengths_fit(s, ls) {
+        return Err(Refusal::Einval);
     }
     if size == 0 {
-        return Answer::Fine(0);
+        return Ok(0);
     }
-    list_loaded(s, upper, lower, x, offset, size, buf)
+    list_loaded(s, ls, x, offset, size, buf)
 }

@@ -5,108 +5,88 @@ ghost use Rattle.calls.specs.Parents.{numbered};
 ghost use Rattle.calls.specs.Pages.{entry_answer, entry_over, fill, Filled, Paged};
 ghost use Rattle.calls.specs.Listing.{type_of, dirent_of, above, child_dirents, listing_of};
 
-use crate::dirent::Put;
 use crate::{parent, writer};
-use layers::search::Found;
 use merge::node::Node;
 use merge::stacks::Pair;
-use merge::{node, state, tables};
+use merge::state;
+use merge::tables::Layers;
 
-// How many bytes were written, and whether entries remain.
+// How many bytes were written, and whether entries remain; both are meant in either case.
 #[derive(Clone, Copy)]
 pub struct Page {
     pub bytes: usize,
     pub remains: bool,
 }
 
+// What is asked of a listing: the bytes that it may take, and the index from which it is given.
+#[derive(Clone, Copy)]
+pub struct Window {
+    pub limit: usize,
+    pub offset: u64,
+}
+
 // ---- one entry
 
 // The type of a layer's record; 0 where there is none.
-fn type_of<'a>(upper: &'a [u8], lower: &'a [u8], p: Pair) -> u8
-    ensures { result ≡ type_of upper.now lower.now p }
+fn type_of(ls: Layers<'_>, p: Pair) -> u8
+    ensures { result ≡ type_of ls.entry.upper.now ls.entry.lower.now p }
 {
-    let t = tables::table_at(upper, lower, layers::bytes::wide(p.layer));
-    if t.len() != 8192 {
+    let Some(t) = ls.table(usize::from(p.layer)) else {
         return 0;
-    }
-    layers::search::kind_at(t, layers::bytes::wide(p.number))
+    };
+    layers::search::kind_at(t, usize::from(p.number))
 }
 
 // The entry of the node `n` under a name; one below the offset is passed over.
-fn put_entry<'a>(
+fn put_entry(
     buf: &mut [u8],
     at: usize,
-    limit: usize,
-    offset: u64,
+    w: Window,
     index: u64,
-    upper: &'a [u8],
-    lower: &'a [u8],
+    ls: Layers<'_>,
     n: Node,
     name: &[u8],
-) -> Put
-    ensures { (result ≡ entry_answer offset limit buf.old at index (dirent_of upper.now lower.now name.now n)) × (buf.new ≡ entry_over offset limit buf.old at index (dirent_of upper.now lower.now name.now n)) }
+) -> Option<usize>
+    ensures { (result ≡ entry_answer w.offset w.limit buf.old at index (dirent_of ls.entry.upper.now ls.entry.lower.now name.now n)) × (buf.new ≡ entry_over w.offset w.limit buf.old at index (dirent_of ls.entry.upper.now ls.entry.lower.now name.now n)) }
 {
-    if index < offset {
-        return Put::Next(at);
+    if index < w.offset {
+        return Some(at);
     }
-    let a = n.stack;
-    let p = a[0];
-    let k = type_of(upper, lower, p);
-    writer::append_dirent(buf, at, limit, p.number as u64, index, k, name)
+    let p = n.stack[0];
+    let k = type_of(ls, p);
+    writer::append_dirent(buf, at, w.limit, u64::from(p.number), index, k, name)
 }
 
 // The entry of a child, `x` being the bytes that hold its name.
-fn put_child<'a>(
+fn put_child(
     buf: &mut [u8],
     at: usize,
-    limit: usize,
-    offset: u64,
+    w: Window,
     index: u64,
-    upper: &'a [u8],
-    lower: &'a [u8],
+    ls: Layers<'_>,
     n: Node,
     x: [u8; 28],
-) -> Put
-    ensures { (result ≡ entry_answer offset limit buf.old at index (dirent_of upper.now lower.now (take n.length x) n)) × (buf.new ≡ entry_over offset limit buf.old at index (dirent_of upper.now lower.now (take n.length x) n)) }
+) -> Option<usize>
+    ensures { (result ≡ entry_answer w.offset w.limit buf.old at index (dirent_of ls.entry.upper.now ls.entry.lower.now (take n.length x) n)) × (buf.new ≡ entry_over w.offset w.limit buf.old at index (dirent_of ls.entry.upper.now ls.entry.lower.now (take n.length x) n)) }
 {
-    let m = layers::bytes::wide(n.length);
-    if 28 < m {
-        return put_entry(buf, at, limit, offset, index, upper, lower, n, &x);
-    }
-    put_entry(buf, at, limit, offset, index, upper, lower, n, &x[..m])
+    let m = usize::from(n.length).min(28);
+    put_entry(buf, at, w, index, ls, n, &x[..m])
 }
 
 // ---- the entries of the children, and the page
 
-fn put_children<'a>(
-    buf: &mut [u8],
-    start: usize,
-    limit: usize,
-    offset: u64,
-    s: &[u8],
-    upper: &'a [u8],
-    lower: &'a [u8],
-    x: u64,
-) -> Page
-    ensures { ◌≡◌ {A = Filled} (record { page = result; buffer = buf.new }) (fill offset limit 2 start buf.old (child_dirents upper.now lower.now x (nodes_of s.now))) }
+fn put_children(buf: &mut [u8], start: usize, w: Window, s: &[u8], ls: Layers<'_>, x: u64) -> Page
+    ensures { ◌≡◌ {A = Filled} (record { page = result; buffer = buf.new }) (fill w.offset w.limit 2 start buf.old (child_dirents ls.entry.upper.now ls.entry.lower.now x (nodes_of s.now))) }
 {
-    let mut k: usize = 0;
-    let mut i: u64 = 2;
+    let mut k = 0;
+    let mut i = 2;
     let mut at = start;
-    loop {
-        let f = state::child_from(s, x, k);
-        let Found::At(j) = f else {
-            return Page {
-                bytes: at,
-                remains: false,
-            };
-        };
+    while let Some(j) = state::child_from(s, x, k) {
         k = j + 1;
         let n = state::node_at(s, j);
         if !parent::is_white(n) {
             let name = n.name;
-            let p = put_child(buf, at, limit, offset, i, upper, lower, n, name);
-            let Put::Next(next) = p else {
+            let Some(next) = put_child(buf, at, w, i, ls, n, name) else {
                 return Page {
                     bytes: at,
                     remains: true,
@@ -115,6 +95,10 @@ fn put_children<'a>(
             at = next;
             i += 1;
         }
+    }
+    Page {
+        bytes: at,
+        remains: false,
     }
 }
 
@@ -126,50 +110,32 @@ fn node_above(s: &[u8], x: u64) -> Node
         return parent::node_numbered(s, 1);
     }
     let n = parent::node_numbered(s, x);
-    parent::node_numbered(s, node::wide(n.parent))
+    parent::node_numbered(s, u64::from(n.parent))
 }
 
-fn put_listing<'a>(
-    buf: &mut [u8],
-    limit: usize,
-    offset: u64,
-    s: &[u8],
-    upper: &'a [u8],
-    lower: &'a [u8],
-    x: u64,
-) -> Page
-    ensures { ◌≡◌ {A = Filled} (record { page = result; buffer = buf.new }) (fill offset limit 0 0 buf.old (listing_of upper.now lower.now s.now x)) }
+fn put_listing(buf: &mut [u8], w: Window, s: &[u8], ls: Layers<'_>, x: u64) -> Page
+    ensures { ◌≡◌ {A = Filled} (record { page = result; buffer = buf.new }) (fill w.offset w.limit 0 0 buf.old (listing_of ls.entry.upper.now ls.entry.lower.now s.now x)) }
 {
     let n = parent::node_numbered(s, x);
-    let f = put_entry(buf, 0, limit, offset, 0, upper, lower, n, b".");
-    let Put::Next(a) = f else {
+    let Some(a) = put_entry(buf, 0, w, 0, ls, n, b".") else {
         return Page {
             bytes: 0,
             remains: true,
         };
     };
     let m = node_above(s, x);
-    let g = put_entry(buf, a, limit, offset, 1, upper, lower, m, b"..");
-    let Put::Next(b) = g else {
+    let Some(b) = put_entry(buf, a, w, 1, ls, m, b"..") else {
         return Page {
             bytes: a,
             remains: true,
         };
     };
-    put_children(buf, b, limit, offset, s, upper, lower, x)
+    put_children(buf, b, w, s, ls, x)
 }
 
-// The page of the directory of number `x` from the entry of index `offset` on, in the first `limit` bytes of the buffer.
-pub fn write_page<'a>(
-    buf: &mut [u8],
-    limit: usize,
-    offset: u64,
-    s: &[u8],
-    upper: &'a [u8],
-    lower: &'a [u8],
-    x: u64,
-) -> Page
-    ensures { Paged limit offset buf.old (listing_of upper.now lower.now s.now x) result buf.new }
+// The page of the directory of number `x` that is asked for, in the first bytes of the buffer.
+pub fn write_page(buf: &mut [u8], w: Window, s: &[u8], ls: Layers<'_>, x: u64) -> Page
+    ensures { Paged w.limit w.offset buf.old (listing_of ls.entry.upper.now ls.entry.lower.now s.now x) result buf.new }
 {
-    put_listing(buf, limit, offset, s, upper, lower, x)
+    put_listing(buf, w, s, ls, x)
 }

@@ -1,8 +1,13 @@
 // The refusals with their numbers, and what a call answers.
-ghost use Rattle.std.specs.Prelude.{◌≡◌, ◌≤◌};
-ghost use Rattle.calls.specs.Refusal.{refusal_number, errno_of, packed};
+ghost use Rattle.std.specs.Prelude.{◌≡◌, ◌≤◌, Some};
+ghost use Rattle.calls.specs.Refusal.{refusal_number, refusal_words, errno_of, packed};
+ghost use Rattle.calls.specs.declared.refusal.Refusal.TheVariants.{Enfile};
 
-#[derive(Clone, Copy)]
+use merge::load::LoadError;
+use std::error::Error;
+use std::fmt;
+
+#[derive(Clone, Copy, Debug, PartialEq, Eq)]
 pub enum Refusal {
     Eperm,
     Enoent,
@@ -15,45 +20,72 @@ pub enum Refusal {
     Enametoolong,
 }
 
-// A number (a node's, a place, a count; 0 where the call answers none), or why the call is refused.
-#[derive(Clone, Copy)]
-pub enum Answer {
-    Fine(usize),
-    Refused(Refusal),
-}
+// "23 ENFILE node places or numbers don't suffice."
+impl From<LoadError> for Refusal {
+    ghost from_gives = { λ _ r. r ≡ Enfile };
 
-pub fn errno(r: Refusal) -> u32
-    ensures { (result ≡ refusal_number r) × (result ≤ 36) }
-{
-    match r {
-        Refusal::Eperm => 1,
-        Refusal::Enoent => 2,
-        Refusal::Eexist => 17,
-        Refusal::Enotdir => 20,
-        Refusal::Einval => 22,
-        Refusal::Enfile => 23,
-        Refusal::Enospc => 28,
-        Refusal::Erofs => 30,
-        Refusal::Enametoolong => 36,
+    fn from(e: LoadError) -> Refusal {
+        match e {
+            LoadError::NoRoom => Refusal::Enfile,
+        }
     }
 }
 
+// The errno.
+impl From<Refusal> for u32 {
+    ghost from_gives = { λ r n. (n ≡ refusal_number r) × (n ≤ 36) };
+
+    fn from(r: Refusal) -> u32 {
+        match r {
+            Refusal::Eperm => 1,
+            Refusal::Enoent => 2,
+            Refusal::Eexist => 17,
+            Refusal::Enotdir => 20,
+            Refusal::Einval => 22,
+            Refusal::Enfile => 23,
+            Refusal::Enospc => 28,
+            Refusal::Erofs => 30,
+            Refusal::Enametoolong => 36,
+        }
+    }
+}
+
+impl fmt::Display for Refusal {
+    ghost output = { λ r. Some (refusal_words r) };
+
+    fn fmt<W: fmt::Write>(&self, f: &mut fmt::Formatter<W>) -> fmt::Result {
+        f.write_str(match self {
+            Refusal::Eperm => "operation not permitted",
+            Refusal::Enoent => "no such file or directory",
+            Refusal::Eexist => "file exists",
+            Refusal::Enotdir => "not a directory",
+            Refusal::Einval => "invalid argument",
+            Refusal::Enfile => "too many nodes",
+            Refusal::Enospc => "no space left in the upper layer",
+            Refusal::Erofs => "read-only file system",
+            Refusal::Enametoolong => "file name too long",
+        })
+    }
+}
+
+impl Error for Refusal {}
+
 // An answer in 32 bits: an errno, 0 for success.
-pub fn errno_of(a: Answer) -> u32
+pub fn errno_of(a: Result<usize, Refusal>) -> u32
     ensures { result ≡ errno_of a }
 {
     match a {
-        Answer::Fine(_) => 0,
-        Answer::Refused(r) => errno(r),
+        Ok(_) => 0,
+        Err(r) => u32::from(r),
     }
 }
 
 // An answer in 64 bits: the errno in the upper 32, the value in the lower 32.
-pub fn packed(a: Answer) -> u64
+pub fn packed(a: Result<usize, Refusal>) -> u64
     ensures { result ≡ packed a }
 {
     match a {
-        Answer::Fine(v) => v as u64,
-        Answer::Refused(r) => 4294967296 * merge::node::wide(errno(r)),
+        Ok(v) => v as u64,
+        Err(r) => 4294967296 * u64::from(u32::from(r)),
     }
 }

@@ -2,16 +2,15 @@
 ghost use Rattle.std.specs.Prelude.{◌≡◌, ◌<◌, length};
 ghost use Rattle.calls.specs.Parents.{top_of};
 ghost use Rattle.merge.specs.Stacks.{pair};
-ghost use Rattle.calls.specs.Upper.{up, in_upper, record_number, new_record, add_new, top_record, emptied, without_whiteout, upper_alone, given_record, named_state, named_number};
+ghost use Rattle.calls.specs.Upper.{up, in_upper, new_record, add_new, top_record, emptied, without_whiteout, upper_alone, given_record, named_state, named_number};
 ghost use Rattle.merge.specs.Nodes.{nodes_of, node_at};
 
 use layers::items;
-use layers::items::Record;
-use layers::search::Found;
+use layers::items::{Record, Table};
 use merge::node::Node;
-use merge::seat::Seat;
 use merge::stacks::{Pair, Stack};
-use merge::{change, load, state, tables};
+use merge::tables::Layers;
+use merge::{change, load, state};
 
 // A record of the upper layer, as stacks hold it.
 pub(crate) fn upper_pair(c: u8) -> Pair
@@ -27,48 +26,32 @@ pub(crate) fn upper_pair(c: u8) -> Pair
 pub(crate) fn top_of(n: Node) -> Pair
     ensures { result ≡ top_of n }
 {
-    let a = n.stack;
-    a[0]
+    n.stack[0]
 }
 
 pub(crate) fn in_upper(n: Node) -> bool
     ensures { result ≡ in_upper n }
 {
-    let p = top_of(n);
-    p.layer == 0
+    top_of(n).layer == 0
 }
 
-pub(crate) fn top_record<'a>(upper: &'a [u8], lower: &'a [u8], n: Node) -> Record
-    ensures { result ≡ top_record upper.now lower.now n }
+pub(crate) fn top_record(ls: Layers<'_>, n: Node) -> Record
+    ensures { result ≡ top_record ls.entry.upper.now ls.entry.lower.now n }
 {
     let p = top_of(n);
-    let t = tables::table_at(upper, lower, layers::bytes::wide(p.layer));
-    if t.len() != 8192 {
+    let Some(t) = ls.table(usize::from(p.layer)) else {
         return items::no_record();
-    }
-    items::record_at(t, layers::bytes::wide(p.number))
+    };
+    items::record_at(t, usize::from(p.number))
 }
 
 // ---- a new record with its entry
 
-// The number of a record put at the place found, 0 where there was none.
-fn record_number(f: Found) -> u8
-    requires { record_number f < 256 }
-    ensures { result ≡ record_number f }
-{
-    let Found::At(i) = f else {
-        return 0;
-    };
-    i as u8
-}
-
 // A new record, and its entry under the name `x` in the directory `d`; the record's number.
-pub(crate) fn add_new(t: &mut [u8], d: u8, x: &[u8], r: Record) -> u8
-    requires { length t.old ≡ 8192 }
+pub(crate) fn add_new(t: &mut Table, d: u8, x: &[u8], r: Record) -> u8
     ensures { (result ≡ new_record t.old) × (t.new ≡ add_new d x.now r t.old) }
 {
-    let f = layers::change::add_record(t, r);
-    let c = record_number(f);
+    let c = layers::change::add_record(t, r).unwrap_or(0) as u8;
     let e = layers::change::entry_naming(d, x, c);
     layers::change::add_entry(t, e);
     c
@@ -77,10 +60,10 @@ pub(crate) fn add_new(t: &mut [u8], d: u8, x: &[u8], r: Record) -> u8
 // ---- a whiteout deleted
 
 // The node found has no record until the call gives it a new one.
-fn empty(s: &mut [u8], f: Found)
+fn empty(s: &mut [u8], f: Option<usize>)
     ensures { s.new ≡ emptied f s.old }
 {
-    let Found::At(j) = f else {
+    let Some(j) = f else {
         return;
     };
     let z = upper_pair(0);
@@ -89,11 +72,10 @@ fn empty(s: &mut [u8], f: Found)
 }
 
 // The whiteout's entry at the place `e` goes, its record with its last entry; `f` is where the name's node stands.
-pub(crate) fn delete_whiteout(s: &mut [u8], upper: &mut [u8], e: Found, f: Found)
-    requires { length upper.old ≡ 8192 }
+pub(crate) fn delete_whiteout(s: &mut [u8], upper: &mut Table, e: Option<usize>, f: Option<usize>)
     ensures { (upper.new ≡ (without_whiteout e f (up upper.old s.old)).table) × (s.new ≡ (without_whiteout e f (up upper.old s.old)).state) }
 {
-    let Found::At(j) = e else {
+    let Some(j) = e else {
         return;
     };
     layers::change::drop_entry(upper, j);
@@ -126,11 +108,11 @@ fn give_record(s: &mut [u8], j: usize, c: u8) -> u32
 }
 
 // The name's node gets the upper record `c` alone, or a new node is put in at the name's seat; its number.
-pub(crate) fn name_node(s: &mut [u8], t: Seat, p: u32, x: &[u8], c: u8) -> u32
+pub(crate) fn name_node(s: &mut [u8], t: Result<usize, usize>, p: u32, x: &[u8], c: u8) -> u32
     ensures { (result ≡ named_number t p x.now c s.old) × (s.new ≡ named_state t p x.now c s.old) }
 {
     match t {
-        Seat::Held(j) => give_record(s, j, c),
-        Seat::Open(k) => change::put_new_at(s, upper_alone(p, x, c), k),
+        Ok(j) => give_record(s, j, c),
+        Err(k) => change::put_new_at(s, upper_alone(p, x, c), k).unwrap_or(0),
     }
 }

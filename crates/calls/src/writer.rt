@@ -3,7 +3,6 @@ ghost use Rattle.std.specs.Prelude.{◌≡◌};
 ghost use Rattle.calls.specs.Dirents.{dirent, put_answer, put_dirent};
 
 use crate::dirent;
-use crate::dirent::Put;
 
 // The caller's buffer, and where the next entry goes.
 #[derive(Drop)]
@@ -20,7 +19,7 @@ pub fn append<'a, 'b>(
     index: u64,
     kind: u8,
     name: &'b [u8],
-) -> Put
+) -> Option<usize>
     ensures { (result ≡ put_answer limit w.entry.buf.now w.entry.at (dirent inode kind name.now)) × (w.exit.0.now ≡ put_dirent limit w.entry.buf.now w.entry.at index (dirent inode kind name.now)) }
 {
     let at = w.at;
@@ -36,7 +35,7 @@ pub fn append_dirent(
     index: u64,
     kind: u8,
     name: &[u8],
-) -> Put
+) -> Option<usize>
     ensures { (result ≡ put_answer limit buf.old at (dirent inode kind name.now)) × (buf.new ≡ put_dirent limit buf.old at index (dirent inode kind name.now)) }
 {
     append(Writer { buf, at }, limit, inode, index, kind, name)

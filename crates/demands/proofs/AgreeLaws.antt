@@ -1,4 +1,5 @@
 -- Where two sets of layers agree below a stack, and what a made directory in front of it leaves. Assumes nothing.
+use Rattle.std.specs.Prelude.{None, Some}
 use mathlib.Core.Path.{◌≡◌, refl, sym, ap, ◌∙◌}
 use mathlib.Core.Logic.{◌≢◌}
 use Prim.Native.Nat.{ℕ, suc}
@@ -11,7 +12,6 @@ use Rattle.layers.specs.Names.{Name, same_name}
 use Rattle.layers.specs.Items.{entries_of, entry_at, free_entry}
 use Rattle.layers.specs.Search.{name_of, names, search_of}
 use Rattle.layers.specs.declared.items.Entry.{Entry}
-use Rattle.layers.specs.declared.search.Found.TheVariants.{Missing}
 use Rattle.layers.proofs.ChangeLaws.{first_missing}
 use Rattle.merge.specs.Tables.{table_of}
 use Rattle.merge.specs.Classes.{child_at, named, seen_of}
@@ -19,7 +19,6 @@ use Rattle.merge.specs.Scan.{is_walked, ends_scan, scanned, in_directory, add_na
 use Rattle.merge.specs.Stacks.{pair, seen_then, collect, reals_of, merge, marks, stack_of, whiteout_of}
 use Rattle.merge.specs.declared.stacks.Pair.{Pair}
 use Rattle.merge.specs.declared.stacks.Class.{Class}
-use Rattle.merge.specs.declared.stacks.Seen.TheVariants.{Nothing, There}
 use Rattle.merge.proofs.MergeLaws.{Each}
 
 -- ---- from the real records to the stack and its mark
@@ -46,17 +45,17 @@ module _ (u l : List ℕ) (a : Pair) (s : List Pair) (walked : is_walked (table_
 
   module _ (x : Name) where
     -- a name that the first directory does not have
-    pub reals_front : ends_scan (table_of u l a.layer) a.number ≡ false → seen_of (table_of u l a.layer) a.number x ≡ Nothing → reals_of u l (a ∷ s) x ≡ reals_of u l s x
+    pub reals_front : ends_scan (table_of u l a.layer) a.number ≡ false → seen_of (table_of u l a.layer) a.number x ≡ None → reals_of u l (a ∷ s) x ≡ reals_of u l s x
     unfolding collect seen_then
     reals_front e h = rw (scanned_plain e, h) refl
 
     -- a name that it has
-    pub reals_there : ends_scan (table_of u l a.layer) a.number ≡ false → (c : Class) (n : ℕ) → seen_of (table_of u l a.layer) a.number x ≡ There c n
+    pub reals_there : ends_scan (table_of u l a.layer) a.number ≡ false → (c : Class) (n : ℕ) → seen_of (table_of u l a.layer) a.number x ≡ Some (c, n)
         → reals_of u l (a ∷ s) x ≡ record { place = pair a.layer n; class = c } ∷ reals_of u l s x
     unfolding collect seen_then
     reals_there e c n h = rw (scanned_plain e, h) refl
 
-    pub reals_alone : ends_scan (table_of u l a.layer) a.number ≡ true → (c : Class) (n : ℕ) → seen_of (table_of u l a.layer) a.number x ≡ There c n
+    pub reals_alone : ends_scan (table_of u l a.layer) a.number ≡ true → (c : Class) (n : ℕ) → seen_of (table_of u l a.layer) a.number x ≡ Some (c, n)
         → reals_of u l (a ∷ s) x ≡ record { place = pair a.layer n; class = c } ∷ []
     unfolding collect seen_then
     reals_alone e c n h = rw (scanned_opaque e, h) refl
@@ -109,11 +108,11 @@ module _ (u v l : List ℕ) where
 
   -- a made directory, plain and without the name, in front of a stack keeps what the name has
   pub made_front : (x : Name) (a : Pair) (s : List Pair) → is_walked (table_of v l a.layer) a.number ≡ true → ends_scan (table_of v l a.layer) a.number ≡ false
-      → seen_of (table_of v l a.layer) a.number x ≡ Nothing → Each (SameName u v l x) s → reals_of v l (a ∷ s) x ≡ reals_of u l s x
+      → seen_of (table_of v l a.layer) a.number x ≡ None → Each (SameName u v l x) s → reals_of v l (a ∷ s) x ≡ reals_of u l s x
   made_front x a s w e n h = reals_front v l a s w x e n ∙ sym (reals_agree x s h)
 
   module _ (x : Name) (a : Pair) (s : List Pair) (w : is_walked (table_of v l a.layer) a.number ≡ true) (e : ends_scan (table_of v l a.layer) a.number ≡ false)
-      (n : seen_of (table_of v l a.layer) a.number x ≡ Nothing) (h : Each (SameName u v l x) s) where
+      (n : seen_of (table_of v l a.layer) a.number x ≡ None) (h : Each (SameName u v l x) s) where
     pub stack_front : stack_of v l (a ∷ s) x ≡ stack_of u l s x
     stack_front = stack_of_reals v u l (a ∷ s) s x (made_front x a s w e n h)
 
@@ -142,7 +141,7 @@ names_out d x e = go (eqb e.parent 0) (eqb e.parent d)
     go false true h = absurd (let z : ◌≡◌ {A = ℕ} 0 1 = cc in omega arith)
     go false false h = refl
 
-pub empty_search : (es : List Entry) (d : ℕ) → EmptyDirectory es d → (x : Name) → search_of es d x ≡ Missing
+pub empty_search : (es : List Entry) (d : ℕ) → EmptyDirectory es d → (x : Name) → search_of es d x ≡ None
 empty_search es d h x = first_missing (names d x) free_entry 0 es (λ i _. names_out d x (entry_at es i) (h i))
 
 pub empty_named : (es : List Entry) (d : ℕ) → EmptyDirectory es d → (x : Name) → named es d x ≡ 0
@@ -150,7 +149,7 @@ unfolding child_at
 empty_named es d h x = rw (empty_search es d h x) refl
 
 -- it has nothing under any name
-pub empty_seen : (t : List ℕ) (d : ℕ) → EmptyDirectory (entries_of t) d → (x : Name) → seen_of t d x ≡ Nothing
+pub empty_seen : (t : List ℕ) (d : ℕ) → EmptyDirectory (entries_of t) d → (x : Name) → seen_of t d x ≡ None
 unfolding seen_of
 empty_seen t d h x = rw (empty_named (entries_of t) d h x) refl
 

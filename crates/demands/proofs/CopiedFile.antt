@@ -1,4 +1,5 @@
 -- A file copied up leaves a valid upper table, and keeps what holds between calls. Assumes nothing.
+use Rattle.std.specs.Prelude.{Option, Some, None}
 use mathlib.Core.Path.{◌≡◌, refl, sym, ap, ◌∙◌, subst}
 use mathlib.Core.Logic.{◌≢◌}
 use Prim.Native.Nat.{ℕ, zero, suc, ◌≤◌, ◌<◌}
@@ -16,8 +17,6 @@ use Rattle.layers.specs.Change.{entry_naming, numbered, added_entry, added_recor
 use Rattle.layers.specs.Rules.{Present, WellFormed, GoodRecord, Valid}
 use Rattle.layers.specs.declared.items.Record.{Record}
 use Rattle.layers.specs.declared.items.Entry.{Entry}
-use Rattle.layers.specs.declared.search.Found.{Found}
-use Rattle.layers.specs.declared.search.Found.TheVariants.{At, Missing}
 use Rattle.layers.proofs.EveryLaws.{no_true}
 use Rattle.layers.proofs.RuleDistinct.{names_exactly}
 use Rattle.layers.proofs.ChangeLaws.{first_passes, free_record_from, free_record_free, record_added_here, record_added_other}
@@ -39,8 +38,6 @@ use Rattle.merge.specs.declared.node.Node.{Node}
 use Rattle.merge.specs.declared.stacks.Pair.{Pair}
 use Rattle.merge.specs.declared.stacks.Class.{Class}
 use Rattle.merge.specs.declared.stacks.Class.TheVariants.{Whiteout, Other, Plain, Opaque}
-use Rattle.merge.specs.declared.stacks.Seen.{Seen}
-use Rattle.merge.specs.declared.stacks.Seen.TheVariants.{Nothing, There}
 use Rattle.merge.proofs.MergeLaws.{Each}
 use Rattle.merge.proofs.StateLaws.{length_nodes}
 use Rattle.merge.proofs.TableLaws.{table_upper}
@@ -126,9 +123,9 @@ pub record Stands (t : List ℕ) (x : Name) (c : ℕ) : Type 0 where
   pub well_formed : WellFormed x
 
 module _ (t : List ℕ) (v : Valid t) (d : ℕ) (x : Name) where
-  at_stands : (j : ℕ) → search_of (entries_of t) d x ≡ At j → Stands t x (entry_at (entries_of t) j).child
+  at_stands : (j : ℕ) → search_of (entries_of t) d x ≡ Some j → Stands t x (entry_at (entries_of t) j).child
   at_stands j e =
-      let p : names d x (entry_at (entries_of t) j) ≡ true = first_passes (names d x) free_entry 0 (entries_of t) j (e ∙ ap At (sym (zero-add j))) in
+      let p : names d x (entry_at (entries_of t) j) ≡ true = first_passes (names d x) free_entry 0 (entries_of t) j (e ∙ ap Some (sym (zero-add j))) in
       let z : (entry_at (entries_of t) j).parent ≢ 0 = names_used d x (entry_at (entries_of t) j) p in
       record { present = (v.ends j).child_exists z; well_formed = subst WellFormed (names_parts d x (entry_at (entries_of t) j) p).1 ((v.entries j).well_formed z) }
 
@@ -136,23 +133,23 @@ module _ (t : List ℕ) (v : Valid t) (d : ℕ) (x : Name) where
   unfolding child_at
   named_stands c h z = go (search_of (entries_of t) d x) refl h
     where
-      go : (f : Found) → search_of (entries_of t) d x ≡ f → child_at (entries_of t) f ≡ c → Stands t x c
-      go (At j) e q = subst (Stands t x) q (at_stands j e)
-      go Missing e q = absurd (z (sym q))
+      go : (f : Option ℕ) → search_of (entries_of t) d x ≡ f → child_at (entries_of t) f ≡ c → Stands t x c
+      go (Some j) e q = subst (Stands t x) q (at_stands j e)
+      go None e q = absurd (z (sym q))
 
   -- no entry of it names record 0
-  pub unseen_missing : seen_of t d x ≡ Nothing → search_of (entries_of t) d x ≡ Missing
+  pub unseen_missing : seen_of t d x ≡ None → search_of (entries_of t) d x ≡ None
   unfolding seen_of child_at
   unseen_missing h = go (search_of (entries_of t) d x) refl
     where
-      go : (f : Found) → search_of (entries_of t) d x ≡ f → f ≡ Missing
-      go (At j) e =
+      go : (f : Option ℕ) → search_of (entries_of t) d x ≡ f → f ≡ None
+      go (Some j) e =
           let c : (entry_at (entries_of t) j).child ≢ 0 = λ z. (at_stands j e).present (ap (λ (i : ℕ). (record_at (records_of t) i).number) z) in
-          absurd (let w : There (class_at t d (entry_at (entries_of t) j).child) (entry_at (entries_of t) j).child ≡ Nothing = sym (rw (e, ne_eqb (entry_at (entries_of t) j).child 0 c) refl) ∙ h in let z : ◌≡◌ {A = ℕ} 0 1 = cc in omega arith)
-      go Missing e = refl
+          absurd (let w : ◌≡◌ {A = Option (Class × ℕ)} (Some (class_at t d (entry_at (entries_of t) j).child, (entry_at (entries_of t) j).child)) None = sym (rw (e, ne_eqb (entry_at (entries_of t) j).child 0 c) refl) ∙ h in let z : ◌≡◌ {A = ℕ} 0 1 = cc in omega arith)
+      go None e = refl
 
 -- a name whose topmost record is no upper one has no entry in the upper directory on top
-unseen_upper : (t l : List ℕ) → length t ≡ 8192 → (d : ℕ) (s : List Pair) (x : Name) (a : Pair) (q : List Pair) → is_walked t d ≡ true → stack_of t l (pair 0 d ∷ s) x ≡ a ∷ q → a.layer ≢ 0 → seen_of t d x ≡ Nothing
+unseen_upper : (t l : List ℕ) → length t ≡ 8192 → (d : ℕ) (s : List Pair) (x : Name) (a : Pair) (q : List Pair) → is_walked t d ≡ true → stack_of t l (pair 0 d ∷ s) x ≡ a ∷ q → a.layer ≢ 0 → seen_of t d x ≡ None
 unfolding scanned collect seen_then
 unseen_upper t l n d s x a q w h z = go (seen_of t d x) refl
   where
@@ -162,11 +159,11 @@ unseen_upper t l n d s x a q w h z = go (seen_of t d x) refl
     f : First (reals_of t l (pair 0 d ∷ s) x) a
     f = stack_first t l (pair 0 d ∷ s) x a q h
 
-    go : (e : Seen) → seen_of t d x ≡ e → e ≡ Nothing
-    go Nothing e = refl
-    go (There c m) e =
+    go : (e : Option (Class × ℕ)) → seen_of t d x ≡ e → e ≡ None
+    go None e = refl
+    go (Some (c, m)) e =
         let o : is_walked (table_of t l 0) d ≡ true = ap (λ (y : List ℕ). is_walked y d) is_upper ∙ w in
-        let n : seen_of (table_of t l 0) d x ≡ There c m = ap (λ (y : List ℕ). seen_of y d x) is_upper ∙ e in
+        let n : seen_of (table_of t l 0) d x ≡ Some (c, m) = ap (λ (y : List ℕ). seen_of y d x) is_upper ∙ e in
         let r : reals_of t l (pair 0 d ∷ s) x ≡ record { place = pair 0 m; class = c } ∷ collect t l x (cond (ends_scan (table_of t l 0) d) [] (scanned t l s)) = rw (o, n) refl in
         let y : record { place = pair 0 m; class = c } ∷ collect t l x (cond (ends_scan (table_of t l 0) d) [] (scanned t l s)) ≡ f.real ∷ f.rest = sym r ∙ f.is_first in
         let p : pair 0 m ≡ f.real.place = cc in
@@ -200,7 +197,7 @@ module _ (r : Record) where
 
 -- ---- the upper table with the copy
 
-module _ (t : List ℕ) (v : Valid t) (i : ℕ) (hr : free_record_place (records_of t) ≡ At i) where
+module _ (t : List ℕ) (v : Valid t) (i : ℕ) (hr : free_record_place (records_of t) ≡ Some i) where
   -- a record that is there is another than the free one
   there_other : (q : ℕ) → Present (records_of t) q → q ≢ i
   unfolding no_record
@@ -211,28 +208,28 @@ module _ (t : List ℕ) (v : Valid t) (i : ℕ) (hr : free_record_place (records
   unfolding child_at
   named_other_record c y = go (search_of (entries_of t) c y) refl
     where
-      go : (f : Found) → search_of (entries_of t) c y ≡ f → child_at (entries_of t) f ≢ i
-      go (At j) e = there_other (entry_at (entries_of t) j).child (at_stands t v c y j e).present
-      go Missing e = λ z. let o : 1 ≤ i = free_record_from (records_of t) i hr in absurd (omega arith)
+      go : (f : Option ℕ) → search_of (entries_of t) c y ≡ f → child_at (entries_of t) f ≢ i
+      go (Some j) e = there_other (entry_at (entries_of t) j).child (at_stands t v c y j e).present
+      go None e = λ z. let o : 1 ≤ i = free_record_from (records_of t) i hr in absurd (omega arith)
 
 -- the record `r`, a file's, can be copied into the upper directory `d` under the name `x`
 record Copyable (t : List ℕ) (d : ℕ) (x : Name) (r : Record) : Type 0 where
   walked : is_walked t d ≡ true
-  unseen : seen_of t d x ≡ Nothing
+  unseen : seen_of t d x ≡ None
   well_formed : WellFormed x
   short : length x ≤ 28
   good : (i : ℕ) → 1 ≤ i → GoodRecord i (numbered i (file_like r))
   no_directory : is_directory r ≡ false
   no_whiteout : is_whiteout r ≡ false
 
-module _ (t : List ℕ) (v : Valid t) (d : ℕ) (x : Name) (r : Record) (c : Copyable t d x r) (tail : FitsTail r) (i j : ℕ) (hr : free_record_place (records_of t) ≡ At i) (he : free_entry_place (entries_of t) ≡ At j) where
+module _ (t : List ℕ) (v : Valid t) (d : ℕ) (x : Name) (r : Record) (c : Copyable t d x r) (tail : FitsTail r) (i j : ℕ) (hr : free_record_place (records_of t) ≡ Some i) (he : free_entry_place (entries_of t) ≡ Some j) where
   abbrev copy : List ℕ
   copy = added_entry (added_record t (file_like r)) (entry_naming d x i)
 
   parent_directory : (record_at (records_of t) d).kind ≡ 4
   parent_directory = eqb-true (record_at (records_of t) d).kind 4 (sym (directory_walked t 0 d v.size) ∙ c.walked)
 
-  copy_missing : search_of (entries_of t) d x ≡ Missing
+  copy_missing : search_of (entries_of t) d x ≡ None
   copy_missing = unseen_missing t v d x c.unseen
 
   copy_valid : Valid copy
@@ -289,7 +286,7 @@ module _ (t : List ℕ) (v : Valid t) (d : ℕ) (x : Name) (r : Record) (c : Cop
   unfolding entry_naming
   copy_named = ap (λ (es : List Entry). named es d x) copy_entries ∙ added_named (entries_of t) (entry_naming d x i) d x entry_named j he copy_missing
 
-  copy_seen : seen_of copy d x ≡ There Other i
+  copy_seen : seen_of copy d x ≡ Some (Other, i)
   unfolding class_at
   copy_seen =
       let o : 1 ≤ i = free_record_from (records_of t) i hr in
@@ -425,9 +422,9 @@ module _ (t l s : List ℕ) (v : Valid t) (g : Good t l s) (k : ℕ) (b : k < co
   unfolding node_in place_of
   parent_by = go (find_number (nodes_of s) n.parent)
     where
-      go : (q : Found) → node_in (nodes_of s) q ≡ node_at (nodes_of s) (place_of (nodes_of s) q)
-      go (At j) = refl
-      go Missing = sym (get_or-eq_default (nodes_of s) no_node {n = length (nodes_of s)} (omega arith))
+      go : (q : Option ℕ) → node_in (nodes_of s) q ≡ node_at (nodes_of s) (place_of (nodes_of s) q)
+      go (Some j) = refl
+      go None = sym (get_or-eq_default (nodes_of s) no_node {n = length (nodes_of s)} (omega arith))
 
   pub node_stack : stack_list n ≡ stack_of t l (stack_list pn) (node_name n)
   node_stack = subst (λ (m : Node). stack_list m ≡ stack_of t l (stack_list (f m.parent)) (node_name m)) by_place (g.nodes.coherent.stack_is n.number (node_there, other)) ∙ ap (λ (m : Node). stack_of t l (stack_list m) (node_name n)) parent_by
@@ -525,7 +522,7 @@ module _ (t l s : List ℕ) (v : Valid t) (g : Good t l s) (k : ℕ) (b : k < co
             no_whiteout = top_live t l (pair 0 d ∷ rest.0) (node_name n) (top_of n) under.0 merged live;
           }
 
-      module _ (tail : FitsTail (top_record t l n)) (i j : ℕ) (hr : free_record_place (records_of t) ≡ At i) (he : free_entry_place (entries_of t) ≡ At j) where
+      module _ (tail : FitsTail (top_record t l n)) (i j : ℕ) (hr : free_record_place (records_of t) ≡ Some i) (he : free_entry_place (entries_of t) ≡ Some j) where
         new_number_lem : new_record t ≡ i
         unfolding record_number
         new_number_lem = ap record_number hr

@@ -1,4 +1,5 @@
 -- A copy-up keeps what holds between calls, whatever it answers. Assumes nothing.
+use Rattle.std.specs.Prelude.{Option, Some, None, is_some}
 use mathlib.Core.Path.{◌≡◌, refl, sym, ap, ◌∙◌, subst}
 use mathlib.Core.Logic.{◌≢◌}
 use Prim.Native.Nat.{ℕ, zero, suc, ◌+◌, ◌≤◌, ◌<◌}
@@ -12,12 +13,10 @@ use Rattle.layers.specs.Bytes.{AllBytes}
 use Rattle.layers.specs.Items.{records_of, entries_of, record_at, FitsTail}
 use Rattle.layers.specs.Search.{free_entry_place, free_record_place, used_entries, used_records}
 use Rattle.layers.specs.Rules.{Valid}
-use Rattle.layers.specs.declared.search.Found.{Found}
-use Rattle.layers.specs.declared.search.Found.TheVariants.{At, Missing}
 use Rattle.layers.proofs.EveryLaws.{no_true}
 use Rattle.merge.specs.declared.node.Node.{Node}
 use Rattle.merge.specs.Nodes.{node_name, count_of, nodes_of, node_at}
-use Rattle.merge.specs.State.{find_number, is_found}
+use Rattle.merge.specs.State.{find_number}
 use Rattle.merge.specs.Tables.{table_of}
 use Rattle.merge.specs.Scan.{is_walked}
 use Rattle.merge.proofs.StateLaws.{length_nodes}
@@ -136,12 +135,12 @@ module _ (t l s : List ℕ) (v : Valid t) (sound : SoundLayers t l) (g : Good t 
           subst (λ (n : Node). FitsTail (top_record u.table l n)) (sym same)
           (subst (λ (m : List ℕ). FitsTail (record_at (records_of m) (top_of (node_at (nodes_of s) k)).number)) (lower_table t u.table l (top_of (node_at (nodes_of s) k)).layer top_lower) (top_fits t l upper_bytes lower_bytes (node_at (nodes_of s) k)))
 
-      pub free : (i : ℕ) × (free_record_place (records_of u.table) ≡ At i)
+      pub free : (i : ℕ) × (free_record_place (records_of u.table) ≡ Some i)
       free =
           let f : length (missing_from 17 s k) ≡ suc (length (missing_from 16 s (parent_place s k))) = fewer in
           record_place_free u.table (let e : used_records (records_of u.table) ≡ used_records (records_of t) + length (missing_from 16 s (parent_place s k)) = path.records in omega arith)
 
-      pub room : (j : ℕ) × (free_entry_place (entries_of u.table) ≡ At j)
+      pub room : (j : ℕ) × (free_entry_place (entries_of u.table) ≡ Some j)
       room =
           let f : length (missing_from 17 s k) ≡ suc (length (missing_from 16 s (parent_place s k))) = fewer in
           entry_place_free u.table (let e : used_entries (entries_of u.table) ≡ used_entries (entries_of t) + length (missing_from 16 s (parent_place s k)) = path.entries in omega arith)
@@ -182,13 +181,13 @@ module _ (t l s : List ℕ) (v : Valid t) (sound : SoundLayers t l) (g : Good t 
 -- ---- the call
 
 -- a known number has its place among the nodes
-pub found_inside : (s : List ℕ) (x : ℕ) → is_found (find_number (nodes_of s) x) ≡ true → place_numbered s x < count_of s
-unfolding is_found place_of
+pub found_inside : (s : List ℕ) (x : ℕ) → is_some (find_number (nodes_of s) x) ≡ true → place_numbered s x < count_of s
+unfolding place_of
 found_inside s x h = go (find_number (nodes_of s) x) refl h
   where
-    go : (f : Found) → find_number (nodes_of s) x ≡ f → is_found f ≡ true → place_of (nodes_of s) f < count_of s
-    go (At j) e q = subst (λ (m : ℕ). j < m) (length_nodes s) (found_below (nodes_of s) x j e)
-    go Missing e q = no_true q
+    go : (f : Option ℕ) → find_number (nodes_of s) x ≡ f → is_some f ≡ true → place_of (nodes_of s) f < count_of s
+    go (Some j) e q = subst (λ (m : ℕ). j < m) (length_nodes s) (found_below (nodes_of s) x j e)
+    go None e q = no_true q
 
 first_passed : (t : Test) (ts : List Test) → passed (t ∷ ts) ≡ true → (t.fails ≡ false) × (passed ts ≡ true)
 unfolding passed
@@ -208,13 +207,13 @@ module _ (u l s : List ℕ) (g : Good u l s) (sound : SoundLayers u l) (upper_by
   passed_keeps : passed tests ≡ true → Keeps l (copied_up l k (up u s))
   unfolding copy_up_before copy_up_tests
   passed_keeps h =
-      let a : (not (lengths_test s u l) ≡ false) × (passed (test (unknown s x) Enoent ∷ test (not (has_upper u)) Erofs ∷ test (is_white (numbered s x)) Enoent ∷ test (overfull u Missing (length (missing s k)) (length (missing s k))) Enospc ∷ []) ≡ true) = first_passed _ _ h in
-      let c : (unknown s x ≡ false) × (passed (test (not (has_upper u)) Erofs ∷ test (is_white (numbered s x)) Enoent ∷ test (overfull u Missing (length (missing s k)) (length (missing s k))) Enospc ∷ []) ≡ true) = first_passed _ _ a.1 in
-      let d : (not (has_upper u) ≡ false) × (passed (test (is_white (numbered s x)) Enoent ∷ test (overfull u Missing (length (missing s k)) (length (missing s k))) Enospc ∷ []) ≡ true) = first_passed _ _ c.1 in
-      let e : (is_white (numbered s x) ≡ false) × (passed (test (overfull u Missing (length (missing s k)) (length (missing s k))) Enospc ∷ []) ≡ true) = first_passed _ _ d.1 in
-      let f : (overfull u Missing (length (missing s k)) (length (missing s k)) ≡ false) × (passed [] ≡ true) = first_passed _ _ e.1 in
+      let a : (not (lengths_test s u l) ≡ false) × (passed (test (unknown s x) Enoent ∷ test (not (has_upper u)) Erofs ∷ test (is_white (numbered s x)) Enoent ∷ test (overfull u None (length (missing s k)) (length (missing s k))) Enospc ∷ []) ≡ true) = first_passed _ _ h in
+      let c : (unknown s x ≡ false) × (passed (test (not (has_upper u)) Erofs ∷ test (is_white (numbered s x)) Enoent ∷ test (overfull u None (length (missing s k)) (length (missing s k))) Enospc ∷ []) ≡ true) = first_passed _ _ a.1 in
+      let d : (not (has_upper u) ≡ false) × (passed (test (is_white (numbered s x)) Enoent ∷ test (overfull u None (length (missing s k)) (length (missing s k))) Enospc ∷ []) ≡ true) = first_passed _ _ c.1 in
+      let e : (is_white (numbered s x) ≡ false) × (passed (test (overfull u None (length (missing s k)) (length (missing s k))) Enospc ∷ []) ≡ true) = first_passed _ _ d.1 in
+      let f : (overfull u None (length (missing s k)) (length (missing s k)) ≡ false) × (passed [] ≡ true) = first_passed _ _ e.1 in
       let r : (used_records (records_of u) + length (missing s k) ≤ 128) × (used_entries (entries_of u) + length (missing s k) ≤ 128) = not_overfull_missing u (length (missing s k)) (length (missing s k)) f.0 in
-      copied_keeps u l s (upper_valid u l sound (eqb-true (length u) 8192 (not-false (has_upper u) d.0))) sound g upper_bytes lower_bytes k (found_inside s x (not-false (is_found (find_number (nodes_of s) x)) c.0)) r.0 r.1 e.0
+      copied_keeps u l s (upper_valid u l sound (eqb-true (length u) 8192 (not-false (has_upper u) d.0))) sound g upper_bytes lower_bytes k (found_inside s x (not-false (is_some (find_number (nodes_of s) x)) c.0)) r.0 r.1 e.0
 
   -- refused or not
   call_keeps : Keeps l (up (copy_up_spec u l s x).upper (copy_up_spec u l s x).state)

@@ -1,4 +1,7 @@
 -- A creation keeps what holds between calls, whatever it answers. Assumes nothing.
+use Rattle.std.specs.Prelude.{Option, Some, None, Result, Ok, Err, is_some}
+use Rattle.merge.specs.declared.load.LoadError.{LoadError}
+use Rattle.merge.specs.declared.load.LoadError.TheVariants.{NoRoom}
 use mathlib.Core.Path.{◌≡◌, refl, sym, ap, ap₂, ◌∙◌, subst}
 use mathlib.Core.Logic.{◌≢◌}
 use Prim.Native.Nat.{ℕ, zero, suc, ◌+◌, ◌*◌, ◌-◌, ◌≤◌, ◌<◌}
@@ -10,7 +13,7 @@ use mathlib.Core.List.{List, [], ◌∷◌, ◌++◌}
 use lib.Dec.{eqb, ltb}
 use lib.ListN.{length}
 use lib.Seq.{get_or-set_same, get_or-set_other}
-use borrow.Author.Tests.{eqb-true, eq-eqb, ltb-true, ltb-false, not-false}
+use borrow.Author.Tests.{eqb-true, eq-eqb, ltb-true, ltb-false, not-false, le-ltb}
 use Rattle.layers.specs.Bytes.{over, AllBytes}
 use Rattle.layers.specs.Names.{Name, malformed_name}
 use Rattle.layers.specs.Items.{records_of, entries_of, entry_at, free_record, free_entry, head_bytes, tail_bytes, record_bytes, entry_bytes, record_put, entry_put, FitsTail}
@@ -20,20 +23,16 @@ use Rattle.layers.specs.Rules.{Used, WellFormed, GoodRecord, Valid}
 use Rattle.layers.specs.Kinds.{kind_number}
 use Rattle.layers.specs.declared.items.Record.{Record}
 use Rattle.layers.specs.declared.kinds.Kind.{Kind}
-use Rattle.layers.specs.declared.kinds.Kind.TheVariants.{Fifo, Character, Directory, Block, Regular, Symlink, Socket, NoKind}
-use Rattle.layers.specs.declared.search.Found.{Found}
-use Rattle.layers.specs.declared.search.Found.TheVariants.{At, Missing}
+use Rattle.layers.specs.declared.kinds.Kind.TheVariants.{Fifo, Character, Directory, Block, Regular, Symlink, Socket}
 use Rattle.layers.proofs.EveryLaws.{no_true}
 use Rattle.layers.proofs.ItemLaws.{length_records}
 use Rattle.layers.proofs.RuleLaws.{well_formed_exactly}
 use Rattle.layers.proofs.ChangeLaws.{first_passes, free_record_from, free_record_below}
 use Rattle.merge.specs.declared.node.Node.{Node}
 use Rattle.merge.specs.declared.stacks.Pair.{Pair}
-use Rattle.merge.specs.declared.seat.Seat.{Seat}
-use Rattle.merge.specs.declared.seat.Seat.TheVariants.{Held, Open}
 use Rattle.merge.specs.Nodes.{no_pair, no_node, node_name, key_of, capacity, count_of, nodes_of, node_at, FitsNode}
 use Rattle.merge.specs.Heads.{next_of}
-use Rattle.merge.specs.State.{find_number, is_found}
+use Rattle.merge.specs.State.{find_number}
 use Rattle.merge.specs.Methods.{with_loaded, with_stack, pushed, topped}
 use Rattle.merge.specs.Changes.{put_bytes}
 use Rattle.merge.specs.Seats.{middle, seat_in, seat_of, holder}
@@ -42,9 +41,6 @@ use Rattle.merge.specs.Classes.{is_whiteout, child_at, named}
 use Rattle.merge.specs.Scan.{is_walked}
 use Rattle.merge.specs.Stacks.{pair, stack_of}
 use Rattle.merge.specs.Load.{stack_list, suffices, is_loaded, load_answer}
-use Rattle.merge.specs.declared.load.Loading.{Loading}
-use Rattle.merge.specs.declared.load.Loading.TheVariants.{Done, NoRoom}
-use Rattle.merge.proofs.ChangeLaws.{put_past}
 use Rattle.merge.proofs.MergeLaws.{Each}
 use Rattle.merge.proofs.NamedLaws.{names_used}
 use Rattle.merge.proofs.NodeFits.{bytes_append, bytes_zeros, bytes_number, bytes_over}
@@ -87,15 +83,19 @@ kind_below Block = omega arith
 kind_below Regular = omega arith
 kind_below Symlink = omega arith
 kind_below Socket = omega arith
-kind_below NoKind = omega arith
 
 creatable_bytes : (r : Record) → Creatable r → FitsBytes r
 creatable_bytes r c =
     let g : GoodRecord 1 (numbered 1 r) = c.good 1 (omega arith) (omega arith) in
-    let k : (k : Kind) × (k ≡ NoKind → ⊥) × (r.kind ≡ kind_number k) = g.kind_is (λ z. omega arith) in
+    let k : (k : Kind) × (r.kind ≡ kind_number k) = g.kind_is (λ z. omega arith) in
     let o : r.opaque ≤ 1 = g.opaque_is in
     let m : r.mark ≡ 0 = g.mark_zero in
-    record { kind_fits = subst (λ (n : ℕ). n < 256) (sym k.2) (kind_below k.0); opaque_fits = omega arith; mark_fits = omega arith }
+    record { kind_fits = subst (λ (n : ℕ). n < 256) (sym k.1) (kind_below k.0); opaque_fits = omega arith; mark_fits = omega arith }
+
+-- a node that is not there is not changed
+put_past : (s : List ℕ) (j c : ℕ) (n : Node) → c ≡ count_of s → c ≤ j → s ≡ put_bytes s j n
+unfolding put_bytes
+put_past s j c n q h = rw (← q, le-ltb j c h) refl
 
 -- ---- what a made path leaves beside the stacks
 
@@ -233,12 +233,12 @@ module _ (t l s : List ℕ) (v : Valid t) (sound : SoundLayers t l) (g : Good t 
         ap (λ (m : List ℕ). is_walked m (top_of (node_at (nodes_of u.state) k)).number) (table_upper u.table l 0 refl path.valid.size)
         ∙ (ap (λ (m : ℕ). is_walked (table_of u.table l m) (top_of (node_at (nodes_of u.state) k)).number) (sym (eqb-true (top_of (node_at (nodes_of u.state) k)).layer 0 path.upper)) ∙ path.walked_still k w)
 
-    free : (i : ℕ) × (free_record_place (records_of u.table) ≡ At i)
+    free : (i : ℕ) × (free_record_place (records_of u.table) ≡ Some i)
     free =
         let f : length (missing_from 16 s k) ≤ length (missing_from 17 s k) = fewer in
         record_place_free u.table (let e : used_records (records_of u.table) ≡ used_records (records_of t) + length (missing_from 16 s k) = path.records in omega arith)
 
-    room : (j : ℕ) × (free_entry_place (entries_of u.table) ≡ At j)
+    room : (j : ℕ) × (free_entry_place (entries_of u.table) ≡ Some j)
     room =
         let f : length (missing_from 16 s k) ≤ length (missing_from 17 s k) = fewer in
         entry_place_free u.table (let e : used_entries (entries_of u.table) ≡ used_entries (entries_of t) + length (missing_from 16 s k) = path.entries in omega arith)
@@ -249,7 +249,7 @@ module _ (t l s : List ℕ) (v : Valid t) (sound : SoundLayers t l) (g : Good t 
         let m : length (records_of u.table) ≡ 128 = length_records u.table in
         c.good free.0 (free_record_from (records_of u.table) free.0 free.1) (omega arith)
 
-    new_bytes_lem : (z : Seat) → AllBytes (filled k z x r u).table
+    new_bytes_lem : (z : Result ℕ ℕ) → AllBytes (filled k z x r u).table
     unfolding filled
     new_bytes_lem z =
         add_new_bytes u.table (path.bytes upper_bytes lower_bytes) (top_of (node_at (nodes_of u.state) k)).number (walked_byte u.table path.valid (top_of (node_at (nodes_of u.state) k)).number walked_now) x name_bytes r (creatable_bytes r c)
@@ -266,28 +266,28 @@ module _ (t l s : List ℕ) (v : Valid t) (sound : SoundLayers t l) (g : Good t 
     enough_now h = rw (beside.capacity_same, beside.count_same, beside.next_same) h
 
     -- a name that has no node
-    pub open_keeps : WellFormed x → is_loaded (node_at (nodes_of s) k) ≡ true → suffices s 1 ≡ true → (q : ℕ) → seat_of (nodes_of s) (node_at (nodes_of s) k).number x ≡ Open q → Keeps l (filled k (Open q) x r u)
+    pub open_keeps : WellFormed x → is_loaded (node_at (nodes_of s) k) ≡ true → suffices s 1 ≡ true → (q : ℕ) → seat_of (nodes_of s) (node_at (nodes_of s) k).number x ≡ Err q → Keeps l (filled k (Err q) x r u)
     open_keeps well loaded enough q seat =
         record {
           good = filled_good u.table l u.state path.valid path.good k b_now path.upper walked_now (beside.loaded_same k ∙ loaded) x well short q (seat_now ∙ seat) path.sound (enough_now enough) free.0 room.0 free.1 room.1 r record_good c.tail c.no_directory live;
           sound = filled_sound u.table l u.state path.valid path.good k b_now path.upper walked_now (beside.loaded_same k ∙ loaded) x well short q (seat_now ∙ seat) path.sound (enough_now enough) free.0 room.0 free.1 room.1 r record_good c.tail c.no_directory live;
-          bytes = new_bytes_lem (Open q);
+          bytes = new_bytes_lem (Err q);
         }
 
     -- a name whose node is a lower whiteout's
-    module _ (j : ℕ) (seat : seat_of (nodes_of s) (node_at (nodes_of s) k).number x ≡ Held j) (white : is_white (node_at (nodes_of s) j) ≡ true) (low : in_upper (node_at (nodes_of s) j) ≡ false) where
+    module _ (j : ℕ) (seat : seat_of (nodes_of s) (node_at (nodes_of s) k).number x ≡ Ok j) (white : is_white (node_at (nodes_of s) j) ≡ true) (low : in_upper (node_at (nodes_of s) j) ≡ false) where
       held : (j < count_of s) × (key_of (node_at (nodes_of s) j) ≡ (node_at (nodes_of s) k).number ∷ x)
       held = held_place t l s g (node_at (nodes_of s) k).number x j seat
 
       same : node_at (nodes_of u.state) j ≡ node_at (nodes_of s) j
       same = path.later_same j (child_later t l s g k b j x held.0 held.1)
 
-      pub over_keeps : Keeps l (filled k (Held j) x r u)
+      pub over_keeps : Keeps l (filled k (Ok j) x r u)
       over_keeps =
           record {
             good = filled_over_good u.table l u.state path.valid path.good path.sound k b_now path.upper walked_now j (rw path.count_same held.0) x (path.key_same j ∙ (held.1 ∙ ap (λ (p : ℕ). p ∷ x) (sym (path.number_same k)))) (ap is_white same ∙ white) (ap in_upper same ∙ low) free.0 room.0 free.1 room.1 r record_good c.tail c.no_directory live;
             sound = filled_over_sound u.table l u.state path.valid path.good path.sound k b_now path.upper walked_now j (rw path.count_same held.0) x (path.key_same j ∙ (held.1 ∙ ap (λ (p : ℕ). p ∷ x) (sym (path.number_same k)))) (ap is_white same ∙ white) (ap in_upper same ∙ low) free.0 room.0 free.1 room.1 r record_good c.tail c.no_directory live;
-            bytes = new_bytes_lem (Held j);
+            bytes = new_bytes_lem (Ok j);
           }
 
 -- ---- a table of bytes without an entry
@@ -335,10 +335,10 @@ dropped_bytes t h j = go (is_free (entry_at (entries_of t) j))
 abbrev pub InPlace : Type 0
 InPlace =
     (t l s : List ℕ) → Valid t → Good t l s → SoundLayers t l → (k : ℕ) → k < count_of s → in_upper (node_at (nodes_of s) k) ≡ true → is_walked t (top_of (node_at (nodes_of s) k)).number ≡ true
-    → (j : ℕ) → j < count_of s → (x : Name) → key_of (node_at (nodes_of s) j) ≡ (node_at (nodes_of s) k).number ∷ x → is_white (node_at (nodes_of s) j) ≡ true → (e : ℕ) → search_of (entries_of t) (top_of (node_at (nodes_of s) k)).number x ≡ At e
-    → (i m : ℕ) → free_record_place (records_of (dropped_entry t e)) ≡ At i → free_entry_place (entries_of (dropped_entry t e)) ≡ At m
+    → (j : ℕ) → j < count_of s → (x : Name) → key_of (node_at (nodes_of s) j) ≡ (node_at (nodes_of s) k).number ∷ x → is_white (node_at (nodes_of s) j) ≡ true → (e : ℕ) → search_of (entries_of t) (top_of (node_at (nodes_of s) k)).number x ≡ Some e
+    → (i m : ℕ) → free_record_place (records_of (dropped_entry t e)) ≡ Some i → free_entry_place (entries_of (dropped_entry t e)) ≡ Some m
     → (r : Record) → GoodRecord i (numbered i r) → FitsTail r → r.kind ≢ 4 → is_whiteout r ≡ false
-    → Good (filled k (Held j) x r (without_whiteout (At e) (At j) (up t s))).table l (filled k (Held j) x r (without_whiteout (At e) (At j) (up t s))).state × SoundLayers (filled k (Held j) x r (without_whiteout (At e) (At j) (up t s))).table l
+    → Good (filled k (Ok j) x r (without_whiteout (Some e) (Some j) (up t s))).table l (filled k (Ok j) x r (without_whiteout (Some e) (Some j) (up t s))).state × SoundLayers (filled k (Ok j) x r (without_whiteout (Some e) (Some j) (up t s))).table l
 
 -- an upper record of a stack is its first
 each_lower : (ps : List Pair) (a : Pair) → Each Lower ps → In a ps → a.layer ≢ 0
@@ -432,38 +432,38 @@ module _ (t l s : List ℕ) (v : Valid t) (sound : SoundLayers t l) (g : Good t 
         ∙ (ap (λ (m : ℕ). named (entries_of (table_of t l m)) d x) layer_above ∙ (ap (λ (m : List ℕ). named (entries_of m) d x) (sym (table_upper t l 0 refl v.size)) ∙ z))))
 
     -- and has the entry
-    entry_there : (e : ℕ) × (search_of (entries_of t) d x ≡ At e)
+    entry_there : (e : ℕ) × (search_of (entries_of t) d x ≡ Some e)
     unfolding child_at
     entry_there = go (search_of (entries_of t) d x) refl named_n
       where
-        go : (f : Found) → search_of (entries_of t) d x ≡ f → child_at (entries_of t) f ≢ 0 → (e : ℕ) × (search_of (entries_of t) d x ≡ At e)
-        go (At e) q z = (e, q)
-        go Missing q z = absurd (z refl)
+        go : (f : Option ℕ) → search_of (entries_of t) d x ≡ f → child_at (entries_of t) f ≢ 0 → (e : ℕ) × (search_of (entries_of t) d x ≡ Some e)
+        go (Some e) q z = (e, q)
+        go None q z = absurd (z refl)
 
     module _ (upper_bytes : AllBytes t) (name_bytes : AllBytes x) (white : is_white (node_at (nodes_of s) j) ≡ true) (r : Record) (c : Creatable r) (live : is_whiteout r ≡ false) (in_place : InPlace)
-        (e : ℕ) (at : search_of (entries_of t) (top_of (node_at (nodes_of s) k)).number x ≡ At e) (fits : overfull t (At e) (suc (length (missing s k))) (suc (length (missing s k))) ≡ false)
+        (e : ℕ) (at : search_of (entries_of t) (top_of (node_at (nodes_of s) k)).number x ≡ Some e) (fits : overfull t (Some e) (suc (length (missing s k))) (suc (length (missing s k))) ≡ false)
       where
         entry_used : Used (entries_of t) e
-        entry_used = names_used d x (entry_at (entries_of t) e) (first_passes (names d x) free_entry 0 (entries_of t) e (at ∙ ap At (sym (zero-add e))))
+        entry_used = names_used d x (entry_at (entries_of t) e) (first_passes (names d x) free_entry 0 (entries_of t) e (at ∙ ap Some (sym (zero-add e))))
 
         none : length (missing s k) ≡ 0
         none = missing_none s 16 k parent_upper
 
         room_after : (used_records (records_of (dropped_entry t e)) < 128) × (used_entries (entries_of (dropped_entry t e)) < 128)
-        unfolding is_found one
+        unfolding one
         room_after =
-            let a : (used_records (records_of t) + suc (length (missing s k)) ≤ 128 + freed_records t (At e)) × (used_entries (entries_of t) + suc (length (missing s k)) ≤ 128 + 1) = not_overfull t (At e) (suc (length (missing s k))) (suc (length (missing s k))) fits in
-            let ar : used_records (records_of t) + suc (length (missing s k)) ≤ 128 + freed_records t (At e) = a.0 in
+            let a : (used_records (records_of t) + suc (length (missing s k)) ≤ 128 + freed_records t (Some e)) × (used_entries (entries_of t) + suc (length (missing s k)) ≤ 128 + 1) = not_overfull t (Some e) (suc (length (missing s k))) (suc (length (missing s k))) fits in
+            let ar : used_records (records_of t) + suc (length (missing s k)) ≤ 128 + freed_records t (Some e) = a.0 in
             let ae : used_entries (entries_of t) + suc (length (missing s k)) ≤ 128 + 1 = a.1 in
-            let h : used_records (records_of (dropped_entry t e)) + freed_records t (At e) ≡ used_records (records_of t) = dropped_entry_records t e entry_used v in
+            let h : used_records (records_of (dropped_entry t e)) + freed_records t (Some e) ≡ used_records (records_of t) = dropped_entry_records t e entry_used v in
             let i : used_entries (entries_of (dropped_entry t e)) + 1 ≡ used_entries (entries_of t) = dropped_entry_entries t e entry_used v.size in
             let z : length (missing s k) ≡ 0 = none in
             (omega arith, omega arith)
 
-        free_after : (i : ℕ) × (free_record_place (records_of (dropped_entry t e)) ≡ At i)
+        free_after : (i : ℕ) × (free_record_place (records_of (dropped_entry t e)) ≡ Some i)
         free_after = record_place_free (dropped_entry t e) room_after.0
 
-        open_after : (i : ℕ) × (free_entry_place (entries_of (dropped_entry t e)) ≡ At i)
+        open_after : (i : ℕ) × (free_entry_place (entries_of (dropped_entry t e)) ≡ Some i)
         open_after = entry_place_free (dropped_entry t e) room_after.1
 
         good_after : GoodRecord free_after.0 (numbered free_after.0 r)
@@ -479,7 +479,7 @@ module _ (t l s : List ℕ) (v : Valid t) (sound : SoundLayers t l) (g : Good t 
             omega arith
 
         abbrev bare : Up
-        bare = without_whiteout (At e) (At j) (up t s)
+        bare = without_whiteout (Some e) (Some j) (up t s)
 
         same_above : node_at (nodes_of bare.state) k ≡ above
         unfolding without_whiteout emptied
@@ -490,16 +490,16 @@ module _ (t l s : List ℕ) (v : Valid t) (sound : SoundLayers t l) (g : Good t 
         path_same : made_upper 16 l k bare ≡ bare
         path_same = made_nothing l 15 k bare (ap in_upper same_above ∙ parent_upper)
 
-        bytes_after : AllBytes (filled k (Held j) x r bare).table
+        bytes_after : AllBytes (filled k (Ok j) x r bare).table
         unfolding filled without_whiteout
         bytes_after =
             add_new_bytes (dropped_entry t e) (dropped_bytes t upper_bytes e) (top_of (node_at (nodes_of bare.state) k)).number (subst (λ (m : Node). (top_of m).number < 256) (sym same_above) (walked_byte t v d upper_walked)) x name_bytes r (creatable_bytes r c)
 
-        written : Good (filled k (Held j) x r bare).table l (filled k (Held j) x r bare).state × SoundLayers (filled k (Held j) x r bare).table l
+        written : Good (filled k (Ok j) x r bare).table l (filled k (Ok j) x r bare).state × SoundLayers (filled k (Ok j) x r bare).table l
         written = in_place t l s v g sound k b parent_upper upper_walked j bj x key white e at free_after.0 open_after.0 free_after.1 open_after.1 r good_after c.tail c.no_directory live
 
-        pub in_place_keeps : Keeps l (filled k (Held j) x r (made_upper 16 l k bare))
-        in_place_keeps = subst (λ (m : Up). Keeps l (filled k (Held j) x r m)) (sym path_same) (record { good = written.0; sound = written.1; bytes = bytes_after })
+        pub in_place_keeps : Keeps l (filled k (Ok j) x r (made_upper 16 l k bare))
+        in_place_keeps = subst (λ (m : Up). Keeps l (filled k (Ok j) x r m)) (sym path_same) (record { good = written.0; sound = written.1; bytes = bytes_after })
 
 -- ---- the call
 
@@ -528,9 +528,9 @@ loaded_walked : (t l : List ℕ) (n : Node) → Walked t l n → Walked t l (wit
 unfolding with_loaded
 loaded_walked t l n h = h
 
-accepted_done : (a : Loading) → is_refused a ≡ false → a ≡ Done
-accepted_done Done h = refl
-accepted_done NoRoom h = no_true (sym h)
+accepted_done : (a : Result (Unit {0}) LoadError) → is_refused a ≡ false → a ≡ Ok tt
+accepted_done (Ok tt) h = refl
+accepted_done (Err NoRoom) h = no_true (sym h)
 
 -- a loaded node has its place
 record Placed (s : List ℕ) (x : ℕ) : Type 0 where
@@ -542,33 +542,33 @@ placed : (s : List ℕ) (x : ℕ) → is_loaded (node_by (nodes_of s) x) ≡ tru
 unfolding node_in place_of is_loaded
 placed s x h = go (find_number (nodes_of s) x) refl h
   where
-    go : (f : Found) → find_number (nodes_of s) x ≡ f → is_loaded (node_in (nodes_of s) f) ≡ true → Placed s x
-    go (At k) e q =
+    go : (f : Option ℕ) → find_number (nodes_of s) x ≡ f → is_loaded (node_in (nodes_of s) f) ≡ true → Placed s x
+    go (Some k) e q =
         let p : place_numbered s x ≡ k = ap (place_of (nodes_of s)) e in
         record {
           inside = subst (λ (m : ℕ). m < count_of s) (sym p) (subst (λ (m : ℕ). k < m) (length_nodes s) (found_below (nodes_of s) x k e));
           node_is = ap (node_at (nodes_of s)) p ∙ sym (by_found (nodes_of s) x k e);
           number_is = ap (λ (m : ℕ). (node_at (nodes_of s) m).number) p ∙ found_number (nodes_of s) x k e;
         }
-    go Missing e q = no_true q
+    go None e q = no_true q
 
-known_number : (s : List ℕ) (x : ℕ) → is_found (find_number (nodes_of s) x) ≡ true → (node_at (nodes_of s) (place_numbered s x)).number ≡ x
-unfolding is_found place_of
+known_number : (s : List ℕ) (x : ℕ) → is_some (find_number (nodes_of s) x) ≡ true → (node_at (nodes_of s) (place_numbered s x)).number ≡ x
+unfolding place_of
 known_number s x h = go (find_number (nodes_of s) x) refl h
   where
-    go : (f : Found) → find_number (nodes_of s) x ≡ f → is_found f ≡ true → (node_at (nodes_of s) (place_of (nodes_of s) f)).number ≡ x
-    go (At k) e q = found_number (nodes_of s) x k e
-    go Missing e q = no_true q
+    go : (f : Option ℕ) → find_number (nodes_of s) x ≡ f → is_some f ≡ true → (node_at (nodes_of s) (place_of (nodes_of s) f)).number ≡ x
+    go (Some k) e q = found_number (nodes_of s) x k e
+    go None e q = no_true q
 
 -- what passed the tests behind the load
-record Allowed (t s : List ℕ) (k : ℕ) (f e : Found) (x : Name) (r : Record) : Type 0 where
+record Allowed (t s : List ℕ) (k : ℕ) (f e : Option ℕ) (x : Name) (r : Record) : Type 0 where
   dead : is_live_name s f ≡ false
   live : is_whiteout r ≡ false
   short : length x ≤ 28
   place : no_place s f ≡ false
   room : overfull t e (suc (length (missing s k))) (suc (length (missing s k))) ≡ false
 
-allowed : (t s : List ℕ) (k : ℕ) (f e : Found) (x : Name) (r : Record) → passed (creation_tests t s k f e x r) ≡ true → Allowed t s k f e x r
+allowed : (t s : List ℕ) (k : ℕ) (f e : Option ℕ) (x : Name) (r : Record) → passed (creation_tests t s k f e x r) ≡ true → Allowed t s k f e x r
 unfolding creation_tests
 allowed t s k f e x r h =
     let a : (is_live_name s f ≡ false) × (passed (test (is_whiteout r) Eperm ∷ test (is_long x) Enametoolong ∷ test (no_place s f) Enfile ∷ test (overfull t e (suc (length (missing s k))) (suc (length (missing s k)))) Enospc ∷ []) ≡ true) = first_passed _ _ h in
@@ -582,42 +582,42 @@ allowed t s k f e x r h =
 module _ (t l s : List ℕ) (v : Valid t) (sound : SoundLayers t l) (g : Good t l s) (upper_bytes : AllBytes t) (lower_bytes : AllBytes l) (k : ℕ) (b : k < count_of s) (w : Walked t l (node_at (nodes_of s) k)) (loaded : is_loaded (node_at (nodes_of s) k) ≡ true)
     (x : Name) (well : WellFormed x) (name_bytes : AllBytes x) (r : Record) (c : Creatable r) (in_place : InPlace)
   where
-    abbrev Left : Seat → Type 0
+    abbrev Left : Result ℕ ℕ → Type 0
     Left z = Keeps l (filled k z x r (made_upper 16 l k (without_whiteout (whiteout_entry t s k (holder z) x) (holder z) (up t s))))
 
-    open_left : (q : ℕ) → seat_of (nodes_of s) (node_at (nodes_of s) k).number x ≡ Open q → Allowed t s k (holder (Open q)) (whiteout_entry t s k (holder (Open q)) x) x r → Left (Open q)
-    unfolding holder whiteout_entry without_whiteout no_place is_found
+    open_left : (q : ℕ) → seat_of (nodes_of s) (node_at (nodes_of s) k).number x ≡ Err q → Allowed t s k (holder (Err q)) (whiteout_entry t s k (holder (Err q)) x) x r → Left (Err q)
+    unfolding holder whiteout_entry without_whiteout no_place
     open_left q seat a =
         let m : (used_records (records_of t) + suc (length (missing s k)) ≤ 128) × (used_entries (entries_of t) + suc (length (missing s k)) ≤ 128) = not_overfull_missing t (suc (length (missing s k))) (suc (length (missing s k))) a.room in
         open_keeps t l s v sound g upper_bytes lower_bytes k b w x a.short name_bytes r c a.live m.0 m.1 well loaded (not-false (suffices s 1) a.place) q seat
 
-    held_left : (j : ℕ) → seat_of (nodes_of s) (node_at (nodes_of s) k).number x ≡ Held j → Allowed t s k (holder (Held j)) (whiteout_entry t s k (holder (Held j)) x) x r → Left (Held j)
+    held_left : (j : ℕ) → seat_of (nodes_of s) (node_at (nodes_of s) k).number x ≡ Ok j → Allowed t s k (holder (Ok j)) (whiteout_entry t s k (holder (Ok j)) x) x r → Left (Ok j)
     unfolding holder whiteout_entry is_live_name
     held_left j seat a = go (in_upper (node_at (nodes_of s) j)) refl a
       where
         held : (j < count_of s) × (key_of (node_at (nodes_of s) j) ≡ (node_at (nodes_of s) k).number ∷ x)
         held = held_place t l s g (node_at (nodes_of s) k).number x j seat
 
-        found : in_upper (node_at (nodes_of s) j) ≡ true → (f : Found) → search_of (entries_of t) (top_of (node_at (nodes_of s) k)).number x ≡ f → Allowed t s k (At j) f x r
-            → Keeps l (filled k (Held j) x r (made_upper 16 l k (without_whiteout f (At j) (up t s))))
-        found h (At e) q a =
+        found : in_upper (node_at (nodes_of s) j) ≡ true → (f : Option ℕ) → search_of (entries_of t) (top_of (node_at (nodes_of s) k)).number x ≡ f → Allowed t s k (Some j) f x r
+            → Keeps l (filled k (Ok j) x r (made_upper 16 l k (without_whiteout f (Some j) (up t s))))
+        found h (Some e) q a =
             in_place_keeps t l s v sound g k b w x j held.0 held.1 h upper_bytes name_bytes (not-false (is_white (node_at (nodes_of s) j)) a.dead) r c a.live in_place e q a.room
-        found h Missing q a =
-            let y : (e : ℕ) × (search_of (entries_of t) (top_of (node_at (nodes_of s) k)).number x ≡ At e) = entry_there t l s v sound g k b w x j held.0 held.1 h in
-            let o : Missing ≡ At y.0 = sym q ∙ y.1 in
+        found h None q a =
+            let y : (e : ℕ) × (search_of (entries_of t) (top_of (node_at (nodes_of s) k)).number x ≡ Some e) = entry_there t l s v sound g k b w x j held.0 held.1 h in
+            let o : None ≡ Some y.0 = sym q ∙ y.1 in
             let z : ◌≡◌ {A = ℕ} 0 1 = cc in
             absurd (omega arith)
 
-        go : (h : Bool) → in_upper (node_at (nodes_of s) j) ≡ h → Allowed t s k (At j) (cond h (search_of (entries_of t) (top_of (node_at (nodes_of s) k)).number x) Missing) x r
-            → Keeps l (filled k (Held j) x r (made_upper 16 l k (without_whiteout (cond h (search_of (entries_of t) (top_of (node_at (nodes_of s) k)).number x) Missing) (At j) (up t s))))
+        go : (h : Bool) → in_upper (node_at (nodes_of s) j) ≡ h → Allowed t s k (Some j) (cond h (search_of (entries_of t) (top_of (node_at (nodes_of s) k)).number x) None) x r
+            → Keeps l (filled k (Ok j) x r (made_upper 16 l k (without_whiteout (cond h (search_of (entries_of t) (top_of (node_at (nodes_of s) k)).number x) None) (Some j) (up t s))))
         go true h a = found h (search_of (entries_of t) (top_of (node_at (nodes_of s) k)).number x) refl a
         go false h a = unfold without_whiteout in
             let m : (used_records (records_of t) + suc (length (missing s k)) ≤ 128) × (used_entries (entries_of t) + suc (length (missing s k)) ≤ 128) = not_overfull_missing t (suc (length (missing s k))) (suc (length (missing s k))) a.room in
             over_keeps t l s v sound g upper_bytes lower_bytes k b w x a.short name_bytes r c a.live m.0 m.1 j seat (not-false (is_white (node_at (nodes_of s) j)) a.dead) h
 
-    seat_left : (z : Seat) → seat_of (nodes_of s) (node_at (nodes_of s) k).number x ≡ z → Allowed t s k (holder z) (whiteout_entry t s k (holder z) x) x r → Left z
-    seat_left (Open q) = open_left q
-    seat_left (Held j) = held_left j
+    seat_left : (z : Result ℕ ℕ) → seat_of (nodes_of s) (node_at (nodes_of s) k).number x ≡ z → Allowed t s k (holder z) (whiteout_entry t s k (holder z) x) x r → Left z
+    seat_left (Err q) = open_left q
+    seat_left (Ok j) = held_left j
 
 module _ (u l s : List ℕ) (g : Good u l s) (sound : SoundLayers u l) (upper_bytes : AllBytes u) (lower_bytes : AllBytes l) (bad : Bool) (p : ℕ) (x : Name) (name_bytes : AllBytes x) (r : Record) (c : Creatable r) (in_place : InPlace) where
   abbrev after : List ℕ
@@ -636,8 +636,8 @@ module _ (u l s : List ℕ) (g : Good u l s) (sound : SoundLayers u l) (upper_by
       let i : (is_white (node_at (nodes_of s) (place_numbered s p)) ≡ false) × (passed (test (not (is_directory_node u l (node_at (nodes_of s) (place_numbered s p)))) Enotdir ∷ []) ≡ true) = first_passed _ _ f.1 in
       let j : (not (is_directory_node u l (node_at (nodes_of s) (place_numbered s p))) ≡ false) × (passed [] ≡ true) = first_passed _ _ i.1 in
       let o : (is_refused (load_answer u l s (place_numbered s p)) ≡ false) × (passed (creation_tests u after (place_numbered after p) (name_in after p x) (whiteout_in u after p x) x r) ≡ true) = first_passed _ _ q in
-      let inside-was : place_numbered s p < count_of s = found_inside s p (not-false (is_found (find_number (nodes_of s) p)) e.0) in
-      let number-was : (node_at (nodes_of s) (place_numbered s p)).number ≡ p = known_number s p (not-false (is_found (find_number (nodes_of s) p)) e.0) in
+      let inside-was : place_numbered s p < count_of s = found_inside s p (not-false (is_some (find_number (nodes_of s) p)) e.0) in
+      let number-was : (node_at (nodes_of s) (place_numbered s p)).number ≡ p = known_number s p (not-false (is_some (find_number (nodes_of s) p)) e.0) in
       let m : Loaded u l s (place_numbered s p) after = load_complete u l s g (valid_children u l sound.tables) (place_numbered s p) inside-was (accepted_done (load_answer u l s (place_numbered s p)) o.0) in
       let mark : node_by (nodes_of after) p ≡ with_loaded (node_at (nodes_of s) (place_numbered s p)) 1 = ap (node_by (nodes_of after)) (sym number-was) ∙ m.mark in
       let y : Placed after p = placed after p (ap is_loaded mark ∙ marked_is (node_at (nodes_of s) (place_numbered s p))) in

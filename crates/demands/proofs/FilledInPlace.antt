@@ -1,4 +1,5 @@
 -- What a creation writes over a whiteout of the upper layer keeps what holds between calls. Assumes nothing.
+use Rattle.std.specs.Prelude.{Option, Some, None, Ok}
 use mathlib.Core.Path.{◌≡◌, refl, sym, ap, ap₂, ◌∙◌, subst}
 use mathlib.Core.Logic.{◌≢◌}
 use Prim.Native.Nat.{ℕ, zero, suc, ◌+◌, ◌*◌, ◌≤◌, ◌<◌}
@@ -19,8 +20,6 @@ use Rattle.layers.specs.Change.{entry_naming, numbered, added_entry, added_recor
 use Rattle.layers.specs.Rules.{Present, Used, WellFormed, GoodRecord, Valid}
 use Rattle.layers.specs.declared.items.Record.{Record}
 use Rattle.layers.specs.declared.items.Entry.{Entry}
-use Rattle.layers.specs.declared.search.Found.{Found}
-use Rattle.layers.specs.declared.search.Found.TheVariants.{At, Missing}
 use Rattle.layers.proofs.EveryLaws.{no_true}
 use Rattle.layers.proofs.ChangeLaws.{first_passes, left_search, records_left_named, records_left_unnamed, records_left_other, freed_here}
 use Rattle.layers.proofs.ChangeBytes.{dropped_entry_lem}
@@ -29,8 +28,6 @@ use Rattle.merge.specs.declared.node.Node.{Node}
 use Rattle.merge.specs.declared.stacks.Pair.{Pair}
 use Rattle.merge.specs.declared.stacks.Class.{Class}
 use Rattle.merge.specs.declared.stacks.Class.TheVariants.{Whiteout, Other, Plain, Opaque}
-use Rattle.merge.specs.declared.stacks.Seen.TheVariants.{Nothing, There}
-use Rattle.merge.specs.declared.seat.Seat.TheVariants.{Held}
 use Rattle.merge.specs.Nodes.{no_pair, no_node, node_bytes, node_name, key_of, count_of, nodes_of, node_at, FitsNode}
 use Rattle.merge.specs.Heads.{next_of}
 use Rattle.merge.specs.Methods.{with_stack, with_white, alone}
@@ -84,12 +81,12 @@ changed_then t u w d x a b =
 
 -- ---- the table `t` without the entry at `e`, which has the name `x` in the directory `d`
 
-module _ (t : List ℕ) (v : Valid t) (d : ℕ) (x : Name) (e : ℕ) (at : search_of (entries_of t) d x ≡ At e) where
+module _ (t : List ℕ) (v : Valid t) (d : ℕ) (x : Name) (e : ℕ) (at : search_of (entries_of t) d x ≡ Some e) where
   abbrev c : ℕ
   c = (entry_at (entries_of t) e).child
 
   entry_names : names d x (entry_at (entries_of t) e) ≡ true
-  entry_names = first_passes (names d x) free_entry 0 (entries_of t) e (at ∙ ap At (sym (zero-add e)))
+  entry_names = first_passes (names d x) free_entry 0 (entries_of t) e (at ∙ ap Some (sym (zero-add e)))
 
   entry_used : Used (entries_of t) e
   entry_used = names_used d x (entry_at (entries_of t) e) entry_names
@@ -103,7 +100,7 @@ module _ (t : List ℕ) (v : Valid t) (d : ℕ) (x : Name) (e : ℕ) (at : searc
   entry_well_formed : WellFormed x
   entry_well_formed = subst WellFormed (names_parts d x (entry_at (entries_of t) e) entry_names).1 ((v.entries e).well_formed entry_used)
 
-  entry_seen : seen_of t d x ≡ There (class_at t d c) c
+  entry_seen : seen_of t d x ≡ Some (class_at t d c, c)
   unfolding seen_of child_at
   entry_seen = rw (at, ne_eqb c 0 child_some) refl
 
@@ -139,10 +136,10 @@ module _ (t : List ℕ) (v : Valid t) (d : ℕ) (x : Name) (e : ℕ) (at : searc
     drop_records = drop_is.records ∙ rw not_free refl
 
     -- the name is gone
-    pub drop_missing : search_of (entries_of (dropped_entry t e)) d x ≡ Missing
+    pub drop_missing : search_of (entries_of (dropped_entry t e)) d x ≡ None
     drop_missing = ap (λ (es : List Entry). search_of es d x) drop_entries ∙ left_search (entries_of t) e d x entry_only
 
-    drop_unseen : seen_of (dropped_entry t e) d x ≡ Nothing
+    drop_unseen : seen_of (dropped_entry t e) d x ≡ None
     unfolding seen_of child_at
     drop_unseen = rw drop_missing refl
 
@@ -176,7 +173,7 @@ module _ (t : List ℕ) (v : Valid t) (d : ℕ) (x : Name) (e : ℕ) (at : searc
 
     -- ---- and with the record `r` under that name
 
-    module _ (walked : is_walked t d ≡ true) (short : length x ≤ 28) (i m : ℕ) (hr : free_record_place (records_of (dropped_entry t e)) ≡ At i) (he : free_entry_place (entries_of (dropped_entry t e)) ≡ At m)
+    module _ (walked : is_walked t d ≡ true) (short : length x ≤ 28) (i m : ℕ) (hr : free_record_place (records_of (dropped_entry t e)) ≡ Some i) (he : free_entry_place (entries_of (dropped_entry t e)) ≡ Some m)
         (r : Record) (good : GoodRecord i (numbered i r)) (tail : FitsTail r) (no_directory_r : r.kind ≢ 4) (no_whiteout : is_whiteout r ≡ false)
       where
         abbrev w : List ℕ
@@ -345,7 +342,7 @@ module _ (t l s : List ℕ) (v : Valid t) (g : Good t l s) (k : ℕ) (bk : k < c
 
     -- ---- the name's upper entry, where its node's top record is upper
 
-    pub upper_entry : in_upper (node_at (nodes_of s) j) ≡ true → (e : ℕ) × (search_of (entries_of t) (top_of (node_at (nodes_of s) k)).number x ≡ At e)
+    pub upper_entry : in_upper (node_at (nodes_of s) j) ≡ true → (e : ℕ) × (search_of (entries_of t) (top_of (node_at (nodes_of s) k)).number x ≡ Some e)
     unfolding in_upper child_at
     upper_entry low = go (search_of (entries_of t) d x) refl
       where
@@ -372,9 +369,9 @@ module _ (t l s : List ℕ) (v : Valid t) (g : Good t l s) (k : ℕ) (bk : k < c
         found : named (entries_of t) d x ≡ (top_of n).number
         found = ap (λ (y : List ℕ). named (entries_of y) d x) (sym in_upper_lem) ∙ subst (λ (q : Pair). named (entries_of (table_of t l q.layer)) q.number x ≡ (top_of n).number) above_is above.found
 
-        go : (y : Found) → search_of (entries_of t) d x ≡ y → (e : ℕ) × (y ≡ At e)
-        go (At e) h = (e, refl)
-        go Missing h = absurd (above.some (sym found ∙ ap (child_at (entries_of t)) h))
+        go : (y : Option ℕ) → search_of (entries_of t) d x ≡ y → (e : ℕ) × (y ≡ Some e)
+        go (Some e) h = (e, refl)
+        go None h = absurd (above.some (sym found ∙ ap (child_at (entries_of t)) h))
 
     -- ---- the state in which the node has no record
 
@@ -391,17 +388,17 @@ module _ (t l s : List ℕ) (v : Valid t) (g : Good t l s) (k : ℕ) (bk : k < c
     bare_node = ap (λ (ns : List Node). node_at ns j) bare_nodes ∙ get_or-set_same (nodes_of s) j (bare n) no_node (rw (length_nodes s) bj)
 
     -- the parent's path is there
-    pub replaced_prepared : (e : ℕ) → prepared l k (At j) (At e) (up t s) ≡ without_whiteout (At e) (At j) (up t s)
+    pub replaced_prepared : (e : ℕ) → prepared l k (Some j) (Some e) (up t s) ≡ without_whiteout (Some e) (Some j) (up t s)
     unfolding without_whiteout emptied made_upper
     replaced_prepared e = rw (ap in_upper bare_parent ∙ high) refl
 
     -- ---- the node is a whiteout, whose upper entry stands at `e`
 
-    module _ (white : is_white (node_at (nodes_of s) j) ≡ true) (e : ℕ) (at : search_of (entries_of t) (top_of (node_at (nodes_of s) k)).number x ≡ At e) where
+    module _ (white : is_white (node_at (nodes_of s) j) ≡ true) (e : ℕ) (at : search_of (entries_of t) (top_of (node_at (nodes_of s) k)).number x ≡ Some e) where
       abbrev old : ℕ
       old = (entry_at (entries_of t) e).child
 
-      top_seen : seen_of (table_of t l 0) d x ≡ There (class_at t d old) old
+      top_seen : seen_of (table_of t l 0) d x ≡ Some (class_at t d old, old)
       top_seen = ap (λ (y : List ℕ). seen_of y d x) in_upper_lem ∙ entry_seen t v d x e at
 
       marked : is_mark (class_at t d old) ≡ true
@@ -427,7 +424,7 @@ module _ (t l s : List ℕ) (v : Valid t) (g : Good t l s) (k : ℕ) (bk : k < c
       unfolding top_walked
       node_top = ap (top_walked t l) node_stack ∙ (ap (λ (y : List ℕ). is_walked y old) in_upper_lem ∙ (directory_walked t 0 old v.size ∙ ne_eqb (record_at (records_of t) old).kind 4 no_directory))
 
-      module _ (i m : ℕ) (hr : free_record_place (records_of (dropped_entry t e)) ≡ At i) (he : free_entry_place (entries_of (dropped_entry t e)) ≡ At m)
+      module _ (i m : ℕ) (hr : free_record_place (records_of (dropped_entry t e)) ≡ Some i) (he : free_entry_place (entries_of (dropped_entry t e)) ≡ Some m)
           (r : Record) (good : GoodRecord i (numbered i r)) (tail : FitsTail r) (no_directory_r : r.kind ≢ 4) (no_whiteout : is_whiteout r ≡ false)
         where
           abbrev new : List ℕ
@@ -474,26 +471,26 @@ module _ (t l s : List ℕ) (v : Valid t) (g : Good t l s) (k : ℕ) (bk : k < c
           unfolding record_number
           new_number_lem = ap record_number hr
 
-          table_is : (filled k (Held j) x r (without_whiteout (At e) (At j) (up t s))).table ≡ new
+          table_is : (filled k (Ok j) x r (without_whiteout (Some e) (Some j) (up t s))).table ≡ new
           unfolding filled without_whiteout emptied add_new
           table_is = ap₂ (λ (q : Node) (o : ℕ). added_entry (added_record (dropped_entry t e) r) (entry_naming (top_of q).number x o)) bare_parent new_number_lem
 
-          state_is : (filled k (Held j) x r (without_whiteout (At e) (At j) (up t s))).state ≡ put_bytes s j a
+          state_is : (filled k (Ok j) x r (without_whiteout (Some e) (Some j) (up t s))).state ≡ put_bytes s j a
           unfolding filled without_whiteout emptied named_state given_record
           state_is =
               ap₂ (λ (q : Node) (o : ℕ). put_bytes bare_state j (with_white (alone q (pair 0 o)) 0)) bare_node new_number_lem
               ∙ (ap (put_bytes bare_state j) (given_bare n (pair 0 i)) ∙ put_again s j (bare n) a (bare_fits n tidy.fits) (given_tidy n (pair 0 i) tidy).fits bj)
 
           -- the upper table keeps every rule
-          pub replaced_valid : Valid (filled k (Held j) x r (without_whiteout (At e) (At j) (up t s))).table
+          pub replaced_valid : Valid (filled k (Ok j) x r (without_whiteout (Some e) (Some j) (up t s))).table
           replaced_valid = subst Valid (sym table_is) w_valid
 
           -- and so does every layer's
-          pub replaced_sound : SoundLayers t l → SoundLayers (filled k (Held j) x r (without_whiteout (At e) (At j) (up t s))).table l
+          pub replaced_sound : SoundLayers t l → SoundLayers (filled k (Ok j) x r (without_whiteout (Some e) (Some j) (up t s))).table l
           replaced_sound sound = subst (λ (y : List ℕ). SoundLayers y l) (sym table_is) (refilled_sound t v d x e at no_directory walked short i m hr he r good tail no_directory_r no_whiteout l sound)
 
           -- what holds between calls holds of the table and the state
-          pub replaced_good : Good (filled k (Held j) x r (without_whiteout (At e) (At j) (up t s))).table l (filled k (Held j) x r (without_whiteout (At e) (At j) (up t s))).state
+          pub replaced_good : Good (filled k (Ok j) x r (without_whiteout (Some e) (Some j) (up t s))).table l (filled k (Ok j) x r (without_whiteout (Some e) (Some j) (up t s))).state
           replaced_good =
-              subst (λ (y : List ℕ). Good (filled k (Held j) x r (without_whiteout (At e) (At j) (up t s))).table l y) (sym state_is)
+              subst (λ (y : List ℕ). Good (filled k (Ok j) x r (without_whiteout (Some e) (Some j) (up t s))).table l y) (sym state_is)
               (subst (λ (y : List ℕ). Good y l (put_bytes s j a)) (sym table_is) (step_good t new l s g j bj a (given_tidy n (pair 0 i) tidy) other step))

@@ -1,4 +1,5 @@
 -- What a creation writes for a name that has no node keeps what holds between calls. Assumes nothing.
+use Rattle.std.specs.Prelude.{Option, Some, None, Err}
 use mathlib.Core.Path.{◌≡◌, refl, sym, ap, ap₂, ◌∙◌, subst}
 use mathlib.Core.Logic.{◌≢◌}
 use Prim.Native.Nat.{ℕ, zero, suc, ◌+◌, ◌≤◌, ◌<◌}
@@ -17,9 +18,6 @@ use Rattle.layers.specs.Rules.{Present, WellFormed, GoodRecord, Valid}
 use Rattle.layers.specs.Sorted.{Sorted}
 use Rattle.layers.specs.declared.items.Record.{Record}
 use Rattle.layers.specs.declared.items.Entry.{Entry}
-use Rattle.layers.specs.declared.search.Found.{Found}
-use Rattle.layers.specs.declared.search.Found.TheVariants.{At, Missing}
-use Rattle.layers.specs.declared.spots.Spot.TheVariants.{Free}
 use Rattle.layers.proofs.EveryLaws.{no_true}
 use Rattle.layers.proofs.RuleDistinct.{names_exactly}
 use Rattle.layers.proofs.RuleFacts.{directory_present, root_present}
@@ -30,9 +28,6 @@ use Rattle.merge.specs.declared.node.Node.{Node}
 use Rattle.merge.specs.declared.stacks.Pair.{Pair}
 use Rattle.merge.specs.declared.stacks.Class.{Class}
 use Rattle.merge.specs.declared.stacks.Class.TheVariants.{Other}
-use Rattle.merge.specs.declared.stacks.Seen.{Seen}
-use Rattle.merge.specs.declared.stacks.Seen.TheVariants.{Nothing, There}
-use Rattle.merge.specs.declared.seat.Seat.TheVariants.{Open}
 use Rattle.merge.specs.Nodes.{no_pair, node_name, key_of, capacity, count_of, nodes_of, node_at}
 use Rattle.merge.specs.Heads.{next_of, full, room_of, numbers_left}
 use Rattle.merge.specs.State.{find_child, place_for}
@@ -70,8 +65,8 @@ use Rattle.demands.proofs.SoundUpper.{sound_changed}
 
 -- ---- the node at the name's seat is a node put in at its place
 
-module _ (s : List ℕ) (sorted : Sorted key_of (nodes_of s)) (p : ℕ) (x : Name) (short : length x ≤ 28) (q : ℕ) (seat : seat_of (nodes_of s) p x ≡ Open q) where
-  seat_place : place_for (nodes_of s) p x ≡ Free q
+module _ (s : List ℕ) (sorted : Sorted key_of (nodes_of s)) (p : ℕ) (x : Name) (short : length x ≤ 28) (q : ℕ) (seat : seat_of (nodes_of s) p x ≡ Err q) where
+  seat_place : place_for (nodes_of s) p x ≡ Some q
   seat_place = seat_free (nodes_of s) sorted p x q seat
 
   seat_inside : q ≤ count_of s
@@ -101,21 +96,21 @@ module _ (t : List ℕ) (v : Valid t) where
   walked_kind : (d : ℕ) → is_walked t d ≡ true → (record_at (records_of t) d).kind ≡ 4
   walked_kind d w = eqb-true (record_at (records_of t) d).kind 4 (sym (directory_walked t 0 d v.size) ∙ w)
 
-  at_present : (d : ℕ) (x : Name) (j : ℕ) → search_of (entries_of t) d x ≡ At j → Present (records_of t) (entry_at (entries_of t) j).child
-  at_present d x j e = (v.ends j).child_exists (names_used d x (entry_at (entries_of t) j) (first_passes (names d x) free_entry 0 (entries_of t) j (e ∙ ap At (sym (zero-add j)))))
+  at_present : (d : ℕ) (x : Name) (j : ℕ) → search_of (entries_of t) d x ≡ Some j → Present (records_of t) (entry_at (entries_of t) j).child
+  at_present d x j e = (v.ends j).child_exists (names_used d x (entry_at (entries_of t) j) (first_passes (names d x) free_entry 0 (entries_of t) j (e ∙ ap Some (sym (zero-add j)))))
 
   -- no entry names record 0
-  unseen_missing : (d : ℕ) (x : Name) → seen_of t d x ≡ Nothing → search_of (entries_of t) d x ≡ Missing
+  unseen_missing : (d : ℕ) (x : Name) → seen_of t d x ≡ None → search_of (entries_of t) d x ≡ None
   unfolding seen_of child_at
   unseen_missing d x h = go (search_of (entries_of t) d x) refl
     where
-      go : (f : Found) → search_of (entries_of t) d x ≡ f → f ≡ Missing
-      go (At j) e =
+      go : (f : Option ℕ) → search_of (entries_of t) d x ≡ f → f ≡ None
+      go (Some j) e =
           let c : (entry_at (entries_of t) j).child ≢ 0 = λ z. at_present d x j e (ap (λ (i : ℕ). (record_at (records_of t) i).number) z) in
-          absurd (let w : There (class_at t d (entry_at (entries_of t) j).child) (entry_at (entries_of t) j).child ≡ Nothing = sym (rw (e, ne_eqb (entry_at (entries_of t) j).child 0 c) refl) ∙ h in let z : ◌≡◌ {A = ℕ} 0 1 = cc in omega arith)
-      go Missing e = refl
+          absurd (let w : ◌≡◌ {A = Option (Class × ℕ)} (Some (class_at t d (entry_at (entries_of t) j).child, (entry_at (entries_of t) j).child)) None = sym (rw (e, ne_eqb (entry_at (entries_of t) j).child 0 c) refl) ∙ h in let z : ◌≡◌ {A = ℕ} 0 1 = cc in omega arith)
+      go None e = refl
 
-  module _ (i : ℕ) (hr : free_record_place (records_of t) ≡ At i) where
+  module _ (i : ℕ) (hr : free_record_place (records_of t) ≡ Some i) where
     -- a record that is there is another than the free one
     there_other : (c : ℕ) → Present (records_of t) c → c ≢ i
     unfolding no_record
@@ -126,14 +121,14 @@ module _ (t : List ℕ) (v : Valid t) where
     unfolding child_at
     named_other c y = go (search_of (entries_of t) c y) refl
       where
-        go : (f : Found) → search_of (entries_of t) c y ≡ f → child_at (entries_of t) f ≢ i
-        go (At j) e = there_other (entry_at (entries_of t) j).child (at_present c y j e)
-        go Missing e = λ z. let o : 1 ≤ i = free_record_from (records_of t) i hr in absurd (omega arith)
+        go : (f : Option ℕ) → search_of (entries_of t) c y ≡ f → child_at (entries_of t) f ≢ i
+        go (Some j) e = there_other (entry_at (entries_of t) j).child (at_present c y j e)
+        go None e = λ z. let o : 1 ≤ i = free_record_from (records_of t) i hr in absurd (omega arith)
 
 -- the record `r`, which is no directory, can be made at the place `i` under the name `x` of the upper directory `d`
 pub record Makeable (t : List ℕ) (d : ℕ) (x : Name) (r : Record) (i : ℕ) : Type 0 where
   pub walked : is_walked t d ≡ true
-  pub unseen : seen_of t d x ≡ Nothing
+  pub unseen : seen_of t d x ≡ None
   pub well_formed : WellFormed x
   pub short : length x ≤ 28
   pub good : GoodRecord i (numbered i r)
@@ -141,11 +136,11 @@ pub record Makeable (t : List ℕ) (d : ℕ) (x : Name) (r : Record) (i : ℕ) :
   pub no_directory : r.kind ≢ 4
   pub no_whiteout : is_whiteout r ≡ false
 
-module _ (t : List ℕ) (v : Valid t) (d : ℕ) (x : Name) (r : Record) (i : ℕ) (c : Makeable t d x r i) (j : ℕ) (hr : free_record_place (records_of t) ≡ At i) (he : free_entry_place (entries_of t) ≡ At j) where
+module _ (t : List ℕ) (v : Valid t) (d : ℕ) (x : Name) (r : Record) (i : ℕ) (c : Makeable t d x r i) (j : ℕ) (hr : free_record_place (records_of t) ≡ Some i) (he : free_entry_place (entries_of t) ≡ Some j) where
   abbrev made : List ℕ
   made = added_entry (added_record t r) (entry_naming d x i)
 
-  made_missing : search_of (entries_of t) d x ≡ Missing
+  made_missing : search_of (entries_of t) d x ≡ None
   made_missing = unseen_missing t v d x c.unseen
 
   pub made_valid : Valid made
@@ -197,7 +192,7 @@ module _ (t : List ℕ) (v : Valid t) (d : ℕ) (x : Name) (r : Record) (i : ℕ
   unfolding entry_naming
   made_named = ap (λ (es : List Entry). named es d x) made_entries ∙ added_named (entries_of t) (entry_naming d x i) d x entry_named j he made_missing
 
-  made_seen : seen_of made d x ≡ There Other i
+  made_seen : seen_of made d x ≡ Some (Other, i)
   unfolding class_at
   made_seen =
       let o : 1 ≤ i = free_record_from (records_of t) i hr in
@@ -216,12 +211,12 @@ module _ (t : List ℕ) (v : Valid t) (d : ℕ) (x : Name) (r : Record) (i : ℕ
 
 -- ---- a name that the directory on top has is merged
 
-seen_some : (t l : List ℕ) → length t ≡ 8192 → (d : ℕ) (ps : List Pair) (x : Name) (c : Class) (m : ℕ) → is_walked t d ≡ true → seen_of t d x ≡ There c m → stack_of t l (pair 0 d ∷ ps) x ≢ []
+seen_some : (t l : List ℕ) → length t ≡ 8192 → (d : ℕ) (ps : List Pair) (x : Name) (c : Class) (m : ℕ) → is_walked t d ≡ true → seen_of t d x ≡ Some (c, m) → stack_of t l (pair 0 d ∷ ps) x ≢ []
 unfolding scanned collect seen_then merge_errno
 seen_some t l n d ps x c m w h z =
     let is_upper : table_of t l 0 ≡ t = sym (table_upper t l 0 refl n) in
     let a : is_walked (table_of t l 0) d ≡ true = ap (λ (y : List ℕ). is_walked y d) is_upper ∙ w in
-    let b : seen_of (table_of t l 0) d x ≡ There c m = ap (λ (y : List ℕ). seen_of y d x) is_upper ∙ h in
+    let b : seen_of (table_of t l 0) d x ≡ Some (c, m) = ap (λ (y : List ℕ). seen_of y d x) is_upper ∙ h in
     let e : merge_errno (reals_of t l (pair 0 d ∷ ps) x) ≡ 0 = rw (a, b) refl in
     let o : ◌≡◌ {A = ℕ} 22 0 = sym (ap merge_errno z) ∙ (errno_stack t l (pair 0 d ∷ ps) x ∙ e) in
     absurd (omega arith)
@@ -242,7 +237,7 @@ suffices_one s h = go (leb 1 (room_of s)) refl h
 -- ---- the directory at place `k`, loaded and upper, has no node of the name `x`, whose seat is `q`
 
 module _ (t l s : List ℕ) (v : Valid t) (g : Good t l s) (k : ℕ) (b : k < count_of s) (high : in_upper (node_at (nodes_of s) k) ≡ true) (walked : is_walked t (top_of (node_at (nodes_of s) k)).number ≡ true) (loaded : is_loaded (node_at (nodes_of s) k) ≡ true)
-    (x : Name) (well : WellFormed x) (short : length x ≤ 28) (q : ℕ) (seat : seat_of (nodes_of s) (node_at (nodes_of s) k).number x ≡ Open q)
+    (x : Name) (well : WellFormed x) (short : length x ≤ 28) (q : ℕ) (seat : seat_of (nodes_of s) (node_at (nodes_of s) k).number x ≡ Err q)
   where
     abbrev f : ℕ → Node
     f = node_by (nodes_of s)
@@ -282,20 +277,20 @@ module _ (t l s : List ℕ) (v : Valid t) (g : Good t l s) (k : ℕ) (b : k < co
     stack_p : stack_list (f p) ≡ pair 0 d ∷ first.0
     stack_p = ap stack_list by_place ∙ (first.1 ∙ ap (λ (a : Pair). a ∷ first.0) top_upper)
 
-    absent : find_child (nodes_of s) p x ≡ Missing
+    absent : find_child (nodes_of s) p x ≡ None
     absent = missing_where_free p x q (nodes_of s) g.nodes.sorted (seat_place s g.nodes.sorted p x short q seat)
 
     -- nor has its upper record the name
-    unseen : seen_of t d x ≡ Nothing
+    unseen : seen_of t d x ≡ None
     unseen = go (seen_of t d x) refl
       where
-        go : (e : Seen) → seen_of t d x ≡ e → e ≡ Nothing
-        go Nothing e = refl
-        go (There c m) e =
+        go : (e : Option (Class × ℕ)) → seen_of t d x ≡ e → e ≡ None
+        go None e = refl
+        go (Some (c, m)) e =
             let a : (i : ℕ) × Resident f i × (key_of (f i) ≡ p ∷ x) = g.complete p there (ap is_loaded by_place ∙ loaded) x (λ z. seen_some t l v.size d first.0 x c m walked e (sym (ap (λ (y : List Pair). stack_of t l y x) stack_p) ∙ z)) in
             absurd (child_unknown (nodes_of s) p x absent a.0 a.1 a.2)
 
-    module _ (sound : SoundLayers t l) (enough : suffices s 1 ≡ true) (i j : ℕ) (hr : free_record_place (records_of t) ≡ At i) (he : free_entry_place (entries_of t) ≡ At j) (r : Record) (good : GoodRecord i (numbered i r)) (tail : FitsTail r) (no_directory : r.kind ≢ 4) (no_whiteout : is_whiteout r ≡ false) where
+    module _ (sound : SoundLayers t l) (enough : suffices s 1 ≡ true) (i j : ℕ) (hr : free_record_place (records_of t) ≡ Some i) (he : free_entry_place (entries_of t) ≡ Some j) (r : Record) (good : GoodRecord i (numbered i r)) (tail : FitsTail r) (no_directory : r.kind ≢ 4) (no_whiteout : is_whiteout r ≡ false) where
       makeable : Makeable t d x r i
       makeable = record { walked = walked; unseen = unseen; well_formed = well; short = short; good = good; tail = tail; no_directory = no_directory; no_whiteout = no_whiteout }
 
@@ -308,13 +303,13 @@ module _ (t l s : List ℕ) (v : Valid t) (g : Good t l s) (k : ℕ) (b : k < co
       w_valid : Valid w
       w_valid = made_valid t v d x r i makeable j hr he
 
-      table_is : (filled k (Open q) x r (up t s)).table ≡ w
+      table_is : (filled k (Err q) x r (up t s)).table ≡ w
       unfolding filled add_new record_number
-      table_is = ap (λ (m : Found). added_entry (added_record t r) (entry_naming d x (record_number m))) hr
+      table_is = ap (λ (m : Option ℕ). added_entry (added_record t r) (entry_naming d x (record_number m))) hr
 
-      state_is : (filled k (Open q) x r (up t s)).state ≡ new_bytes s a
+      state_is : (filled k (Err q) x r (up t s)).state ≡ new_bytes s a
       unfolding filled named_state record_number
-      state_is = ap (λ (m : Found). seated_bytes s (upper_alone p x (record_number m)) q) hr ∙ seated_as_new s g.nodes.sorted p x short q seat i
+      state_is = ap (λ (m : Option ℕ). seated_bytes s (upper_alone p x (record_number m)) q) hr ∙ seated_as_new s g.nodes.sorted p x short q seat i
 
       parent_a : a.parent ≡ p
       parent_a = new_parent p (pair 0 i ∷ []) false x short (omega arith)
@@ -340,7 +335,7 @@ module _ (t l s : List ℕ) (v : Valid t) (g : Good t l s) (k : ℕ) (b : k < co
           (ap₂ ◌∷◌ parent_a name_a) absent (stack_a ∙ sym stack_w) (λ z. let o : pair 0 i ∷ [] ≡ [] = sym stack_a ∙ z in let e : ◌≡◌ {A = ℕ} 1 0 = ap length o in absurd (omega arith))
           (new_white p (pair 0 i ∷ []) false x short (omega arith) ∙ ap one (sym mark_w)) (new_loaded p (pair 0 i ∷ []) false x short (omega arith))
 
-      missing_a : find_child (nodes_of s) a.parent (node_name a) ≡ Missing
+      missing_a : find_child (nodes_of s) a.parent (node_name a) ≡ None
       missing_a = ap₂ (find_child (nodes_of s)) parent_a name_a ∙ absent
 
       not_full : full s ≡ false
@@ -351,13 +346,13 @@ module _ (t l s : List ℕ) (v : Valid t) (g : Good t l s) (k : ℕ) (b : k < co
       left = let o : 1 ≤ numbers_left s = (suffices_one s enough).1 in omega arith
 
       -- the upper table keeps every rule
-      pub filled_valid : Valid (filled k (Open q) x r (up t s)).table
+      pub filled_valid : Valid (filled k (Err q) x r (up t s)).table
       filled_valid = subst Valid (sym table_is) w_valid
 
       -- and so does every layer's
-      pub filled_sound : SoundLayers (filled k (Open q) x r (up t s)).table l
+      pub filled_sound : SoundLayers (filled k (Err q) x r (up t s)).table l
       filled_sound = subst (λ (z : List ℕ). SoundLayers z l) (sym table_is) (sound_changed t w l sound w_valid)
 
       -- what holds between calls holds of the table and the state
-      pub filled_good : Good (filled k (Open q) x r (up t s)).table l (filled k (Open q) x r (up t s)).state
+      pub filled_good : Good (filled k (Err q) x r (up t s)).table l (filled k (Err q) x r (up t s)).state
       filled_good = rw (table_is, state_is) (new_good t w l s g.nodes a tidy_a filled_new missing_a not_full left g.blank g.complete)

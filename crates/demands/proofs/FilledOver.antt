@@ -1,4 +1,6 @@
 -- What a creation or a link writes over a whiteout of a lower layer keeps what holds between calls. Assumes nothing.
+use Rattle.std.specs.Prelude.{Option, Some, None, Ok}
+use Rattle.merge.specs.declared.stacks.Class.{Class}
 use mathlib.Core.Path.{◌≡◌, refl, sym, ap, ap₂, ◌∙◌, subst}
 use mathlib.Core.Logic.{◌≢◌}
 use Prim.Native.Nat.{ℕ, ◌≤◌, ◌<◌}
@@ -14,8 +16,6 @@ use Rattle.layers.specs.Search.{one, search_of, free_entry_place, free_record_pl
 use Rattle.layers.specs.Change.{entry_naming, numbered, added_entry, added_record}
 use Rattle.layers.specs.Rules.{Present, WellFormed, GoodRecord, Valid}
 use Rattle.layers.specs.declared.items.Record.{Record}
-use Rattle.layers.specs.declared.search.Found.{Found}
-use Rattle.layers.specs.declared.search.Found.TheVariants.{At, Missing}
 use Rattle.layers.proofs.EveryLaws.{no_true}
 use Rattle.merge.specs.Nodes.{node_name, key_of, count_of, nodes_of, node_at}
 use Rattle.merge.specs.Methods.{with_white, alone}
@@ -27,10 +27,7 @@ use Rattle.merge.specs.Scan.{is_walked}
 use Rattle.merge.specs.Stacks.{pair, stack_of, whiteout_of}
 use Rattle.merge.specs.Load.{stack_list, is_loaded}
 use Rattle.merge.specs.declared.node.Node.{Node}
-use Rattle.merge.specs.declared.seat.Seat.TheVariants.{Held}
 use Rattle.merge.specs.declared.stacks.Pair.{Pair}
-use Rattle.merge.specs.declared.stacks.Seen.{Seen}
-use Rattle.merge.specs.declared.stacks.Seen.TheVariants.{Nothing, There}
 use Rattle.merge.proofs.StateLaws.{length_nodes}
 use Rattle.merge.proofs.TableLaws.{table_upper}
 use Rattle.merge.proofs.ClassLaws.{directory_walked, walked_long}
@@ -62,7 +59,7 @@ marked_one true m e h = refl
 marked_one false m e h = no_true (sym (ap not (eq-eqb m 0 e)) ∙ h)
 
 -- the node at a name's seat is the name's
-pub held_place : (t l s : List ℕ) → Good t l s → (p : ℕ) (x : Name) (j : ℕ) → seat_of (nodes_of s) p x ≡ Held j → (j < count_of s) × (key_of (node_at (nodes_of s) j) ≡ p ∷ x)
+pub held_place : (t l s : List ℕ) → Good t l s → (p : ℕ) (x : Name) (j : ℕ) → seat_of (nodes_of s) p x ≡ Ok j → (j < count_of s) × (key_of (node_at (nodes_of s) j) ≡ p ∷ x)
 unfolding holder
 held_place t l s g p x j seat =
     let e : (j < length (nodes_of s)) × (key_of (node_at (nodes_of s) j) ≡ p ∷ x) = child_place (nodes_of s) p x j (sym (seat_child (nodes_of s) g.nodes.sorted p x) ∙ ap holder seat) in
@@ -139,21 +136,21 @@ module _ (t l s : List ℕ) (v : Valid t) (g : Good t l s) (sound : SoundLayers 
         go false e = refl
 
     -- and the upper directory has not the name
-    unseen : seen_of t d x ≡ Nothing
+    unseen : seen_of t d x ≡ None
     unfolding in_upper
     unseen = go (seen_of t d x) refl
       where
-        go : (e : Seen) → seen_of t d x ≡ e → e ≡ Nothing
-        go Nothing e = refl
-        go (There a m) e =
+        go : (e : Option (Class × ℕ)) → seen_of t d x ≡ e → e ≡ None
+        go None e = refl
+        go (Some (a, m)) e =
             let u : t ≡ table_of t l 0 = table_upper t l 0 refl v.size in
             let q : (q : List Pair) × (stack_of t l (pair 0 d ∷ held.0) x ≡ pair 0 m ∷ q) =
-            seen_starts t l d held.0 x a m (subst (λ (w : List ℕ). is_walked w d ≡ true) u walked) (subst (λ (w : List ℕ). seen_of w d x ≡ There a m) u e) in
+            seen_starts t l d held.0 x a m (subst (λ (w : List ℕ). is_walked w d ≡ true) u walked) (subst (λ (w : List ℕ). seen_of w d x ≡ Some (a, m)) u e) in
             let y : top_of n ∷ first_n.0 ≡ pair 0 m ∷ q.0 = sym starts ∙ q.1 in
             let z : top_of n ≡ pair 0 m = cc in
             absurd (eqb-false (top_of n).layer 0 lower (ap (λ (b : Pair). b.layer) z))
 
-    absent : search_of (entries_of t) d x ≡ Missing
+    absent : search_of (entries_of t) d x ≡ None
     absent = unseen_missing t v d x unseen
 
     -- the name is one that a table has
@@ -214,20 +211,20 @@ module _ (t l s : List ℕ) (v : Valid t) (g : Good t l s) (sound : SoundLayers 
 
     -- ---- a creation
 
-    module _ (i m : ℕ) (hr : free_record_place (records_of t) ≡ At i) (he : free_entry_place (entries_of t) ≡ At m) (r : Record) (good : GoodRecord i (numbered i r)) (tail : FitsTail r) (no_directory : r.kind ≢ 4) (no_whiteout : is_whiteout r ≡ false) where
+    module _ (i m : ℕ) (hr : free_record_place (records_of t) ≡ Some i) (he : free_entry_place (entries_of t) ≡ Some m) (r : Record) (good : GoodRecord i (numbered i r)) (tail : FitsTail r) (no_directory : r.kind ≢ 4) (no_whiteout : is_whiteout r ≡ false) where
       makeable : Makeable t d x r i
       makeable = record { walked = walked; unseen = unseen; well_formed = well; short = short; good = good; tail = tail; no_directory = no_directory; no_whiteout = no_whiteout }
 
       abbrev made : List ℕ
       made = added_entry (added_record t r) (entry_naming (top_of (node_at (nodes_of s) k)).number x i)
 
-      table_is : (filled k (Held j) x r (up t s)).table ≡ made
+      table_is : (filled k (Ok j) x r (up t s)).table ≡ made
       unfolding filled add_new record_number
-      table_is = ap (λ (q : Found). added_entry (added_record t r) (entry_naming d x (record_number q))) hr
+      table_is = ap (λ (q : Option ℕ). added_entry (added_record t r) (entry_naming d x (record_number q))) hr
 
-      state_is : (filled k (Held j) x r (up t s)).state ≡ given_record s j i
+      state_is : (filled k (Ok j) x r (up t s)).state ≡ given_record s j i
       unfolding filled named_state record_number
-      state_is = ap (λ (q : Found). given_record s j (record_number q)) hr
+      state_is = ap (λ (q : Option ℕ). given_record s j (record_number q)) hr
 
       valid_after : Valid made
       valid_after = made_valid t v d x r i makeable m hr he
@@ -236,15 +233,15 @@ module _ (t l s : List ℕ) (v : Valid t) (g : Good t l s) (sound : SoundLayers 
       file_after = directory_walked made 0 i valid_after.size ∙ (ap is_directory (made_here t v d x r i makeable m hr he) ∙ ne_eqb r.kind 4 no_directory)
 
       -- the upper table keeps every rule
-      pub filled_over_valid : Valid (filled k (Held j) x r (up t s)).table
+      pub filled_over_valid : Valid (filled k (Ok j) x r (up t s)).table
       filled_over_valid = subst Valid (sym table_is) valid_after
 
       -- and so does every layer's
-      pub filled_over_sound : SoundLayers (filled k (Held j) x r (up t s)).table l
+      pub filled_over_sound : SoundLayers (filled k (Ok j) x r (up t s)).table l
       filled_over_sound = subst (λ (z : List ℕ). SoundLayers z l) (sym table_is) (sound_changed t made l sound valid_after)
 
       -- what holds between calls holds of the table and the state
-      pub filled_over_good : Good (filled k (Held j) x r (up t s)).table l (filled k (Held j) x r (up t s)).state
+      pub filled_over_good : Good (filled k (Ok j) x r (up t s)).table l (filled k (Ok j) x r (up t s)).state
       filled_over_good =
           rw (table_is, state_is)
           (given_good made valid_after (made_changed t v d x r i makeable m hr he) (made_root t v d x r i makeable m hr he) i file_after
@@ -252,7 +249,7 @@ module _ (t l s : List ℕ) (v : Valid t) (g : Good t l s) (sound : SoundLayers 
 
     -- ---- a link of the node at place `h`, which stands on an upper record, and is no directory and not marked white
 
-    module _ (h : ℕ) (bh : h < count_of s) (upper_h : in_upper (node_at (nodes_of s) h) ≡ true) (no_directory : is_directory_node t l (node_at (nodes_of s) h) ≡ false) (i : ℕ) (free : free_entry_place (entries_of t) ≡ At i) where
+    module _ (h : ℕ) (bh : h < count_of s) (upper_h : in_upper (node_at (nodes_of s) h) ≡ true) (no_directory : is_directory_node t l (node_at (nodes_of s) h) ≡ false) (i : ℕ) (free : free_entry_place (entries_of t) ≡ Some i) where
       abbrev rec : ℕ
       rec = (top_of (node_at (nodes_of s) h)).number
 
@@ -265,7 +262,7 @@ module _ (t l s : List ℕ) (v : Valid t) (g : Good t l s) (sound : SoundLayers 
       rec_file : is_directory (record_at (records_of t) rec) ≡ false
       rec_file = source_file t l s v g h bh upper_h no_directory
 
-      link_is : (linked h k (Held j) x (up t s)).table ≡ link
+      link_is : (linked h k (Ok j) x (up t s)).table ≡ link
       unfolding linked
       link_is = refl
 
@@ -276,23 +273,23 @@ module _ (t l s : List ℕ) (v : Valid t) (g : Good t l s) (sound : SoundLayers 
       file_link = directory_walked link 0 rec valid_link.size ∙ (sym (ap is_directory (link_record t v d walked x well short absent rec rec_there rec_file i free rec)) ∙ rec_file)
 
       -- the upper table keeps every rule
-      pub linked_over_valid : Valid (linked h k (Held j) x (up t s)).table
+      pub linked_over_valid : Valid (linked h k (Ok j) x (up t s)).table
       linked_over_valid = subst Valid (sym link_is) valid_link
 
       -- and so does every layer's
-      pub linked_over_sound : SoundLayers (linked h k (Held j) x (up t s)).table l
+      pub linked_over_sound : SoundLayers (linked h k (Ok j) x (up t s)).table l
       linked_over_sound = subst (λ (z : List ℕ). SoundLayers z l) (sym link_is) (link_sound t v d walked x well short absent rec rec_there rec_file i free l sound)
 
       module _ (live : is_white (node_at (nodes_of s) h) ≡ false) where
         rec_live : is_whiteout (record_at (records_of t) rec) ≡ false
         rec_live = source_live t l s v g h bh upper_h no_directory live
 
-        state_link : (linked h k (Held j) x (up t s)).state ≡ given_record s j rec
+        state_link : (linked h k (Ok j) x (up t s)).state ≡ given_record s j rec
         unfolding linked named_state
         state_link = refl
 
         -- what holds between calls holds of the table and the state
-        pub linked_over_good : Good (linked h k (Held j) x (up t s)).table l (linked h k (Held j) x (up t s)).state
+        pub linked_over_good : Good (linked h k (Ok j) x (up t s)).table l (linked h k (Ok j) x (up t s)).state
         linked_over_good =
             rw (link_is, state_link)
             (given_good link valid_link (link_changed t v d walked x well short absent rec rec_there rec_file i free) (link_record t v d walked x well short absent rec rec_there rec_file i free 1) rec file_link

@@ -1,4 +1,5 @@
 -- The invariant kept where the layers change at one name: its node changed, or put in. Assumes nothing.
+use Rattle.std.specs.Prelude.{Some, None}
 use mathlib.Core.Path.{◌≡◌, refl, sym, ap, ◌∙◌}
 use mathlib.Core.Logic.{◌≢◌}
 use Prim.Native.Nat.{ℕ, ◌+◌, ◌≤◌, ◌<◌}
@@ -10,8 +11,6 @@ use lib.ListN.{length, set}
 use Rattle.layers.specs.Names.{Name}
 use Rattle.layers.specs.Search.{one}
 use Rattle.layers.specs.Order.{insert_by}
-use Rattle.layers.specs.declared.search.Found.TheVariants.{At, Missing}
-use Rattle.layers.specs.declared.spots.Spot.TheVariants.{Free}
 use Rattle.merge.specs.declared.node.Node.{Node}
 use Rattle.merge.specs.Nodes.{node_name, key_of, count_of, nodes_of, node_at}
 use Rattle.merge.specs.Methods.{with_number, with_loaded}
@@ -50,7 +49,7 @@ module _ (u v l s : List ℕ) (g : Good u l s) (k : ℕ) (b : k < count_of s) (a
 -- ---- a directory marked loaded, where every name that has a stack below it has a node
 
 pub mark_keeps : (u l s : List ℕ) → Good u l s → (k : ℕ) → k < count_of s
-    → ((y : Name) → stack_of u l (stack_list (node_at (nodes_of s) k)) y ≢ [] → (i : ℕ) × (find_child (nodes_of s) (node_at (nodes_of s) k).number y ≡ At i))
+    → ((y : Name) → stack_of u l (stack_list (node_at (nodes_of s) k)) y ≢ [] → (i : ℕ) × (find_child (nodes_of s) (node_at (nodes_of s) k).number y ≡ Some i))
     → Good u l (put_bytes s k (with_loaded (node_at (nodes_of s) k) 1))
 mark_keeps u l s g k b named =
     record {
@@ -83,7 +82,7 @@ mark_keeps u l s g k b named =
         go : Dec (x ≡ n.number) → Complete u l (node_by (set ns k a)) x
         go (yes e) = rw e (λ r h y w.
             let at : stack_list (node_by (set ns k a) n.number) ≡ stack_list n = (each n.number).stack_same ∙ ap stack_list (place_by ns g.nodes.once k (rw (length_nodes s) b)) in
-            let i : (i : ℕ) × (find_child ns n.number y ≡ At i) = named y (λ z. w (ap (λ (q : List _). stack_of u l q y) at ∙ z)) in
+            let i : (i : ℕ) × (find_child ns n.number y ≡ Some i) = named y (λ z. w (ap (λ (q : List _). stack_of u l q y) at ∙ z)) in
             let m : (i : ℕ) × Resident (node_by ns) i × (key_of (node_by ns i) ≡ n.number ∷ y) = child_there ns n.number y g.nodes.once g.nodes.none_zero i.0 i.1 in
             (m.0, (m.1.0, (each m.0).number_same ∙ m.1.1), (each m.0).key_same ∙ m.2))
         go (no e) = alike_complete u l (node_by ns) (node_by (set ns k a)) each x (λ h. sym (ap is_loaded (by_set_other ns k a alike.number_same x e)) ∙ h) (g.complete x)
@@ -101,7 +100,7 @@ pub record New (u v l : List ℕ) (f : ℕ → Node) (n : Node) : Type 0 where
   pub white_new : n.white ≡ one (whiteout_of v l (stack_list (f n.parent)) (node_name n))
   pub not_loaded : is_loaded n ≡ false
 
-module _ (u v l s : List ℕ) (g : GoodNodes u l (nodes_of s) (next_of s)) (n : Node) (t : Tidy n) (new : New u v l (node_by (nodes_of s)) n) (missing : find_child (nodes_of s) n.parent (node_name n) ≡ Missing) (room : full s ≡ false) (left : next_of s ≤ 4294967295) where
+module _ (u v l s : List ℕ) (g : GoodNodes u l (nodes_of s) (next_of s)) (n : Node) (t : Tidy n) (new : New u v l (node_by (nodes_of s)) n) (missing : find_child (nodes_of s) n.parent (node_name n) ≡ None) (room : full s ≡ false) (left : next_of s ≤ 4294967295) where
   abbrev made : Node
   made = with_number n (next_of s)
 
@@ -118,7 +117,7 @@ module _ (u v l s : List ℕ) (g : GoodNodes u l (nodes_of s) (next_of s)) (n : 
         name_unused = t.name_unused;
       }
 
-  free : (k : ℕ) × (place_for (nodes_of s) n.parent (node_name n) ≡ Free k)
+  free : (k : ℕ) × (place_for (nodes_of s) n.parent (node_name n) ≡ Some k)
   free = free_where_missing n.parent (node_name n) (nodes_of s) missing
 
   pub nodes_after : nodes_of (new_bytes s n) ≡ insert_by key_of made (nodes_of s)
@@ -161,7 +160,7 @@ module _ (u v l s : List ℕ) (g : GoodNodes u l (nodes_of s) (next_of s)) (n : 
   new_key = ap key_of new_node_lem
 
   -- other names have no node where they had none
-  pub new_absent : (p : ℕ) (y : Name) → key_of n ≢ p ∷ y → find_child (nodes_of s) p y ≡ Missing → find_child (nodes_of (new_bytes s n)) p y ≡ Missing
+  pub new_absent : (p : ℕ) (y : Name) → key_of n ≢ p ∷ y → find_child (nodes_of s) p y ≡ None → find_child (nodes_of (new_bytes s n)) p y ≡ None
   unfolding found_shifted with_number
   new_absent p y e m = rw nodes_after (child_kept (nodes_of s) made free.0 free.1 p y e ∙ ap (found_shifted free.0) m)
 

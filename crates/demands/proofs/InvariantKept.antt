@@ -1,4 +1,5 @@
 -- The invariant kept: a node's count changed, a node forgotten. Assumes nothing.
+use Rattle.std.specs.Prelude.{Option, Some, None}
 use mathlib.Core.Path.{◌≡◌, refl, sym, ap, ◌∙◌, subst}
 use mathlib.Core.Logic.{◌≢◌}
 use Prim.Native.Nat.{ℕ, ◌+◌, ◌*◌, ◌≤◌, ◌<◌}
@@ -9,8 +10,6 @@ use mathlib.Core.List.{List}
 use lib.Dec.{eqb, leb, ltb}
 use lib.ListN.{length, drop, get_or, set, get_or-eq_default}
 use borrow.Author.Tests.{leb-false, ltb-true, ltb-false}
-use Rattle.layers.specs.declared.search.Found.{Found}
-use Rattle.layers.specs.declared.search.Found.TheVariants.{At, Missing}
 use Rattle.layers.proofs.PieceMoves.{remove_at}
 use Rattle.merge.specs.declared.node.Node.{Node}
 use Rattle.merge.specs.Nodes.{no_node, count_of, nodes_of, node_at}
@@ -136,7 +135,7 @@ module _ (u l t : List ℕ) (g : GoodNodes u l (nodes_of t) (next_of t)) (p : �
   unfolding unloaded_at
   unloaded_keeps = rw found.1 (record { nodes = put_nodes u l t found.0 marked tidied g alike; complete = rw (nodes_put t found.0 marked tidied.fits) whole; blank = blank_put t found.0 marked tidied.fits blank })
     where
-      found : (k : ℕ) × (find_number (nodes_of t) p ≡ At k)
+      found : (k : ℕ) × (find_number (nodes_of t) p ≡ Some k)
       found = resident_found (nodes_of t) p there
 
       marked : Node
@@ -188,7 +187,7 @@ pub forget_keeps : (u l s : List ℕ) (x m : ℕ) → Good u l s → Good u l (f
 unfolding forget_spec
 forget_keeps u l s x m g = first (leb x 1) refl
   where
-    third : (k : ℕ) → 1 < x → find_number (nodes_of s) x ≡ At k → (c b : Bool) → has_children (nodes_of s) x ≡ b
+    third : (k : ℕ) → 1 < x → find_number (nodes_of s) x ≡ Some k → (c b : Bool) → has_children (nodes_of s) x ≡ b
         → Good u l (cond c (cond b (put_bytes s k (forgotten (node_at (nodes_of s) k) m)) (unloaded (taken_bytes s k) (node_at (nodes_of s) k).parent)) (put_bytes s k (forgotten (node_at (nodes_of s) k) m)))
     third k h f true true e = forgotten_keeps u l s g k m
     third k h f true false e =
@@ -196,9 +195,9 @@ forget_keeps u l s x m g = first (leb x 1) refl
         drop_keeps u l s g k (subst (λ (c : ℕ). k < c) (length_nodes s) (found_below (nodes_of s) x k f)) (ap (has_children (nodes_of s)) n ∙ e) (λ z. omega arith)
     third k h f false b e = forgotten_keeps u l s g k m
 
-    second : (f : Found) → 1 < x → find_number (nodes_of s) x ≡ f → Good u l (forgotten_at s x m f)
-    second (At k) h e = unfold forgotten_at in third k h e (eqb (fallen (node_at (nodes_of s) k).count m) 0) (has_children (nodes_of s) x) refl
-    second Missing h e = unfold forgotten_at in g
+    second : (f : Option ℕ) → 1 < x → find_number (nodes_of s) x ≡ f → Good u l (forgotten_at s x m f)
+    second (Some k) h e = unfold forgotten_at in third k h e (eqb (fallen (node_at (nodes_of s) k).count m) 0) (has_children (nodes_of s) x) refl
+    second None h e = unfold forgotten_at in g
 
     first : (b : Bool) → leb x 1 ≡ b → Good u l (cond b s (forgotten_at s x m (find_number (nodes_of s) x)))
     first true e = g

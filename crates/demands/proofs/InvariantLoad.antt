@@ -1,4 +1,8 @@
 -- The invariant kept by a load, and what a load leaves. Assumes nothing.
+use Rattle.std.specs.Prelude.{Option, Some, None, Result, Ok, Err, is_some}
+use Rattle.std.specs.declared.cmp.Ordering.TheVariants.{Less, Equal}
+use Rattle.merge.specs.declared.load.LoadError.{LoadError}
+use Rattle.merge.specs.declared.load.LoadError.TheVariants.{NoRoom}
 use mathlib.Core.Path.{◌≡◌, refl, sym, ap, ap₂, ◌∙◌, subst}
 use mathlib.Core.Logic.{◌≢◌}
 use Prim.Native.Nat.{ℕ, suc, ◌+◌, ◌≤◌, ◌<◌}
@@ -13,18 +17,14 @@ use Rattle.layers.specs.Names.{Name, same_name, order_of}
 use Rattle.layers.specs.Items.{entries_of}
 use Rattle.layers.specs.Search.{one}
 use Rattle.layers.specs.Sorted.{Below, Sorted}
-use Rattle.layers.specs.declared.names.Order.TheVariants.{Before, Same}
-use Rattle.layers.specs.declared.search.Found.{Found}
-use Rattle.layers.specs.declared.search.Found.TheVariants.{At, Missing}
 use Rattle.layers.proofs.NameLaws.{same_true, same_refl}
 use Rattle.layers.proofs.OrderLaws.{same_self}
 use Rattle.merge.specs.declared.stacks.Pair.{Pair}
 use Rattle.merge.specs.declared.node.Node.{Node}
-use Rattle.merge.specs.declared.load.Loading.TheVariants.{Done, NoRoom}
 use Rattle.merge.specs.Nodes.{no_node, node_name, key_of, capacity, count_of, nodes_of, node_at}
 use Rattle.merge.specs.Methods.{with_loaded}
 use Rattle.merge.specs.Heads.{next_of, full, room_of, numbers_left}
-use Rattle.merge.specs.State.{is_found, those, find_child}
+use Rattle.merge.specs.State.{those, find_child}
 use Rattle.merge.specs.Changes.{put_bytes, new_bytes}
 use Rattle.merge.specs.Tables.{table_of}
 use Rattle.merge.specs.Scan.{scanned, names_of, merged_names}
@@ -69,7 +69,7 @@ below_other x y [] b h e = absurd_bool h
 below_other x y (z ∷ xs) b h e = go (same_name z y) refl h (λ k. below_other x y xs b.1 k e)
   where
     go : (t : Bool) → same_name z y ≡ t → or t (has y xs) ≡ true → (has y xs ≡ true → ⊥) → ⊥
-    go true q h ih = absurd (let w : Same ≡ Before = sym (same_self x) ∙ (ap (order_of x) (e ∙ sym (same_true z y q)) ∙ b.0) in let o : ◌≡◌ {A = ℕ} 0 1 = cc in omega arith)
+    go true q h ih = absurd (let w : Equal ≡ Less = sym (same_self x) ∙ (ap (order_of x) (e ∙ sym (same_true z y q)) ∙ b.0) in let o : ◌≡◌ {A = ℕ} 0 1 = cc in omega arith)
     go false q h ih = ih h
 
 those_has : (p : Name → Bool) (xs : List Name) (y : Name) → has y (those p xs) ≡ true → (has y xs ≡ true) × (p y ≡ true)
@@ -99,13 +99,13 @@ has_those p (x ∷ xs) y h e = go (p x) refl (same_name x y) refl h (λ k. has_t
     go false a true q h ih = absurd_bool (sym a ∙ (ap p (same_true x y q) ∙ e))
     go false a false q h ih = ih h
 
-none_missing : (ns : List Node) (p : ℕ) (x : Name) → has_none ns p x ≡ true → find_child ns p x ≡ Missing
-unfolding has_none is_found
+none_missing : (ns : List Node) (p : ℕ) (x : Name) → has_none ns p x ≡ true → find_child ns p x ≡ None
+unfolding has_none
 none_missing ns p x h = go (find_child ns p x) h
   where
-    go : (f : Found) → not (is_found f) ≡ true → f ≡ Missing
-    go (At k) e = absurd_bool e
-    go Missing e = refl
+    go : (f : Option ℕ) → not (is_some f) ≡ true → f ≡ None
+    go (Some k) e = absurd_bool e
+    go None e = refl
 
 -- ---- a node for one name
 
@@ -116,7 +116,7 @@ module _ (u l t : List ℕ) (g : GoodNodes u l (nodes_of t) (next_of t)) (p : �
   abbrev new : Node
   new = new_node p (merged_stack u l ps x) x
 
-  module _ (absent : find_child (nodes_of t) p x ≡ Missing) (stack : stack_of u l ps x ≢ []) (short : length x ≤ 28) (room : 1 ≤ room_of t) (left : 1 ≤ numbers_left t) where
+  module _ (absent : find_child (nodes_of t) p x ≡ None) (stack : stack_of u l ps x ≢ []) (short : length x ≤ 28) (room : 1 ≤ room_of t) (left : 1 ≤ numbers_left t) where
     stack_short : length (stack_of u l ps x) ≤ 4
     stack_short =
         let a : length (stack_of u l ps x) ≤ length ps = length_stack u l ps x in
@@ -149,7 +149,7 @@ module _ (u l t : List ℕ) (g : GoodNodes u l (nodes_of t) (next_of t)) (p : �
         stack_is : stack_list new ≡ stack_of u l ps x
         stack_is = new_stack p (stack_of u l ps x) (whiteout_of u l ps x) x short stack_short
 
-    missing : find_child (nodes_of t) new.parent (node_name new) ≡ Missing
+    missing : find_child (nodes_of t) new.parent (node_name new) ≡ None
     missing = ap₂ (find_child (nodes_of t)) parent_is name_is ∙ absent
 
     not_full : full t ≡ false
@@ -180,7 +180,7 @@ module _ (u l t : List ℕ) (g : GoodNodes u l (nodes_of t) (next_of t)) (p : �
     pub name_there : (k : ℕ) × Resident (node_by (nodes_of (new_bytes t new))) k × (key_of (node_by (nodes_of (new_bytes t new)) k) ≡ p ∷ x)
     name_there = (next_of t, new_there u u l t g new tidy_new fresh missing not_full (omega arith), new_key u u l t g new tidy_new fresh missing not_full (omega arith) ∙ ap₂ ◌∷◌ parent_is name_is)
 
-    pub name_absent : (y : Name) → x ≢ y → find_child (nodes_of t) p y ≡ Missing → find_child (nodes_of (new_bytes t new)) p y ≡ Missing
+    pub name_absent : (y : Name) → x ≢ y → find_child (nodes_of t) p y ≡ None → find_child (nodes_of (new_bytes t new)) p y ≡ None
     name_absent y e = new_absent u u l t g new tidy_new fresh missing not_full (omega arith) p y (λ z. e (sym name_is ∙ (let w : key_of new ≡ p ∷ y = z in cc)))
 
 -- ---- nodes for names, one after another
@@ -193,7 +193,7 @@ module _ (u l : List ℕ) (p : ℕ) where
     pub there : Resident (node_by (nodes_of t)) p
     pub stack : stack_list (node_by (nodes_of t) p) ≡ ps
     pub sorted : Sorted (λ n. n) xs
-    pub absent : (y : Name) → has y xs ≡ true → find_child (nodes_of t) p y ≡ Missing
+    pub absent : (y : Name) → has y xs ≡ true → find_child (nodes_of t) p y ≡ None
     pub some : (y : Name) → has y xs ≡ true → stack_of u l ps y ≢ []
     pub short : (y : Name) → has y xs ≡ true → length y ≤ 28
     pub places : length xs ≤ room_of t
@@ -214,7 +214,7 @@ module _ (u l : List ℕ) (p : ℕ) where
     abbrev after : List ℕ
     after = new_bytes t (new_node p (merged_stack u l (stack_list (node_by (nodes_of t) p)) x) x)
 
-    none_x : find_child (nodes_of t) p x ≡ Missing
+    none_x : find_child (nodes_of t) p x ≡ None
     none_x = a.absent x (has_first x xs)
 
     some_x : stack_of u l (stack_list (node_by (nodes_of t) p)) x ≢ []
@@ -378,11 +378,11 @@ module _ (u l s : List ℕ) (g : Good u l s) (exist : (k : ℕ) → ChildrenExis
     done_named : (y : Name) → has y (merged_names u l (stack_list n)) ≡ true → (k : ℕ) × Resident (node_by (nodes_of done)) k × (key_of (node_by (nodes_of done) k) ≡ x ∷ y)
     done_named y h = go (find_child ns x y) refl
       where
-        go : (q : Found) → find_child ns x y ≡ q → (k : ℕ) × Resident (node_by (nodes_of done)) k × (key_of (node_by (nodes_of done) k) ≡ x ∷ y)
-        go (At k) e =
+        go : (q : Option ℕ) → find_child ns x y ≡ q → (k : ℕ) × Resident (node_by (nodes_of done)) k × (key_of (node_by (nodes_of done) k) ≡ x ∷ y)
+        go (Some k) e =
             let t : (i : ℕ) × Resident (node_by ns) i × (key_of (node_by ns i) ≡ x ∷ y) = child_there ns x y g.nodes.once g.nodes.none_zero k e in
             (t.0, done_there t.0 t.1, (done_alike t.0 t.1).key_same ∙ t.2)
-        go Missing e = added.named y (unfold to_add has_none is_found in has_those (has_none ns x) (merged_names u l (stack_list n)) y h (rw e refl))
+        go None e = added.named y (unfold to_add has_none in has_those (has_none ns x) (merged_names u l (stack_list n)) y h (rw e refl))
 
     done_complete : (y : ℕ) → Complete u l (node_by (nodes_of done)) y
     done_complete y = go (ℕ_discrete y x)
@@ -410,7 +410,7 @@ module _ (u l s : List ℕ) (g : Good u l s) (exist : (k : ℕ) → ChildrenExis
 pub record Loaded (u l s : List ℕ) (j : ℕ) (w : List ℕ) : Type 0 where
   pub mark : node_by (nodes_of w) (node_at (nodes_of s) j).number ≡ with_loaded (node_at (nodes_of s) j) 1
   pub others : (y : ℕ) → Resident (node_by (nodes_of s)) y → y ≢ (node_at (nodes_of s) j).number → node_by (nodes_of w) y ≡ node_by (nodes_of s) y
-  pub named : (y : Name) → has y (merged_names u l (stack_list (node_at (nodes_of s) j))) ≡ true → (k : ℕ) × (find_child (nodes_of w) (node_at (nodes_of s) j).number y ≡ At k)
+  pub named : (y : Name) → has y (merged_names u l (stack_list (node_at (nodes_of s) j))) ≡ true → (k : ℕ) × (find_child (nodes_of w) (node_at (nodes_of s) j).number y ≡ Some k)
 
 -- a place that has no node loads nothing
 pub load_outside : (u l s : List ℕ) (j : ℕ) → count_of s ≤ j → load_bytes u l s j ≡ s
@@ -429,11 +429,11 @@ load_outside u l s j h = rw (get_or-eq_default (nodes_of s) no_node {n = j} (rw 
     go false false = refl
 
 -- a refused load changes nothing
-pub refused_same : (u l s : List ℕ) (j : ℕ) → load_answer u l s j ≡ NoRoom → load_bytes u l s j ≡ s
+pub refused_same : (u l s : List ℕ) (j : ℕ) → load_answer u l s j ≡ Err NoRoom → load_bytes u l s j ≡ s
 unfolding load_node load_node_bytes
 refused_same u l s j h = go (is_loaded (node_at (nodes_of s) j)) (suffices s (length (to_add u l s (node_at (nodes_of s) j)))) h
   where
-    go : (b c : Bool) → cond b Done (cond c Done NoRoom) ≡ NoRoom → cond b s (cond c (add_names u l (node_at (nodes_of s) j).number (stack_list (node_at (nodes_of s) j)) (to_add u l s (node_at (nodes_of s) j)) (put_bytes s j (with_loaded (node_at (nodes_of s) j) 1))) s) ≡ s
+    go : (b c : Bool) → ◌≡◌ {A = Result (Unit {0}) LoadError} (cond b (Ok tt) (cond c (Ok tt) (Err NoRoom))) (Err NoRoom) → cond b s (cond c (add_names u l (node_at (nodes_of s) j).number (stack_list (node_at (nodes_of s) j)) (to_add u l s (node_at (nodes_of s) j)) (put_bytes s j (with_loaded (node_at (nodes_of s) j) 1))) s) ≡ s
     go true c e = refl
     go false true e = absurd (let o : ◌≡◌ {A = ℕ} 0 1 = cc in omega arith)
     go false false e = refl
@@ -482,11 +482,11 @@ module _ (u l s : List ℕ) (g : Good u l s) (exist : (k : ℕ) → ChildrenExis
         at = place_by (nodes_of s) g.nodes.once j (inside u l s g exist j b)
 
     -- after an accepted load the node is loaded, and each merged name has a node
-    pub load_complete : load_answer u l s j ≡ Done → Loaded u l s j (load_bytes u l s j)
+    pub load_complete : load_answer u l s j ≡ Ok tt → Loaded u l s j (load_bytes u l s j)
     unfolding load_node load_node_bytes
     load_complete h = go (is_loaded (node_at (nodes_of s) j)) refl (suffices s (length (to_add u l s (node_at (nodes_of s) j)))) refl h
       where
-        go : (c : Bool) → is_loaded (node_at (nodes_of s) j) ≡ c → (d : Bool) → suffices s (length (to_add u l s (node_at (nodes_of s) j))) ≡ d → cond c Done (cond d Done NoRoom) ≡ Done
+        go : (c : Bool) → is_loaded (node_at (nodes_of s) j) ≡ c → (d : Bool) → suffices s (length (to_add u l s (node_at (nodes_of s) j))) ≡ d → ◌≡◌ {A = Result (Unit {0}) LoadError} (cond c (Ok tt) (cond d (Ok tt) (Err NoRoom))) (Ok tt)
             → Loaded u l s j (cond c s (cond d (add_names u l (node_at (nodes_of s) j).number (stack_list (node_at (nodes_of s) j)) (to_add u l s (node_at (nodes_of s) j)) (put_bytes s j (with_loaded (node_at (nodes_of s) j) 1))) s))
         go true e d f q = loaded_already e
         go false e true f q =

@@ -1,4 +1,6 @@
 -- The invariant over the list of nodes: one put in, changed or taken out. Assumes nothing.
+use Rattle.std.specs.Prelude.{Option, Some, None, is_some}
+use Rattle.std.specs.declared.cmp.Ordering.TheVariants.{Less, Greater}
 use mathlib.Core.Path.{◌≡◌, refl, sym, ap, ◌∙◌, subst}
 use mathlib.Core.Logic.{◌≢◌}
 use Prim.Native.Nat.{ℕ, zero, suc, ◌+◌, ◌≤◌, ◌<◌}
@@ -12,20 +14,16 @@ use lib.ListN.{length, take, get_or, set, replicate, length-set}
 use lib.Seq.{set_out, get_or-set_same, get_or-set_other}
 use borrow.Author.Tests.{le-ltb, ltb-true, ltb-false}
 use Rattle.layers.specs.Names.{Name, order_of}
-use Rattle.layers.specs.declared.names.Order.TheVariants.{Before, After}
 use Rattle.layers.specs.Search.{one, first_from}
 use Rattle.layers.specs.Order.{insert_by}
 use Rattle.layers.specs.Sorted.{Sorted}
-use Rattle.layers.specs.declared.search.Found.{Found}
-use Rattle.layers.specs.declared.search.Found.TheVariants.{At, Missing}
-use Rattle.layers.specs.declared.spots.Spot.TheVariants.{Free}
 use Rattle.layers.proofs.Places.{first_found}
 use Rattle.layers.proofs.ChangeLaws.{first_below, first_passes}
 use Rattle.layers.proofs.SortLaws.{insert_sorted}
 use Rattle.layers.proofs.PieceMoves.{insert_at, remove_at}
 use Rattle.merge.specs.declared.node.Node.{Node}
 use Rattle.merge.specs.Nodes.{no_node, no_pair, node_name, key_of, node_at}
-use Rattle.merge.specs.State.{is_number, is_child, has_parent, is_found, those, find_number, find_child, child_from, has_children, place_for}
+use Rattle.merge.specs.State.{is_number, is_child, has_parent, those, find_number, find_child, child_from, has_children, place_for}
 use Rattle.merge.specs.Stacks.{stack_of, whiteout_of}
 use Rattle.merge.specs.Fresh.{root_stack, fresh}
 use Rattle.merge.specs.Load.{stack_list, is_loaded}
@@ -50,108 +48,108 @@ module _ {A : Type 0} (p : A → Bool) (d : A) where
       go true ih = omega arith
       go false ih = ih
 
-  pub only_place : (s : ℕ) (xs : List A) (j : ℕ) → length (those p xs) ≤ 1 → j < length xs → p (get_or xs j d) ≡ true → first_from p s xs ≡ At (s + j)
+  pub only_place : (s : ℕ) (xs : List A) (j : ℕ) → length (those p xs) ≤ 1 → j < length xs → p (get_or xs j d) ≡ true → first_from p s xs ≡ Some (s + j)
   unfolding first_from those
   only_place s [] j o l h = absurd (omega arith)
   only_place s (x ∷ xs) zero o l h = rw (h, add-zero s) refl
   only_place s (x ∷ xs) (suc j) o l h = go (p x) o (only_place (suc s) xs j)
     where
-      go : (b : Bool) → length (cond b (x ∷ those p xs) (those p xs)) ≤ 1 → (length (those p xs) ≤ 1 → j < length xs → p (get_or xs j d) ≡ true → first_from p (suc s) xs ≡ At (suc s + j)) → cond b (At s) (first_from p (suc s) xs) ≡ At (s + suc j)
+      go : (b : Bool) → length (cond b (x ∷ those p xs) (those p xs)) ≤ 1 → (length (those p xs) ≤ 1 → j < length xs → p (get_or xs j d) ≡ true → first_from p (suc s) xs ≡ Some (suc s + j)) → cond b (Some s) (first_from p (suc s) xs) ≡ Some (s + suc j)
       go true o ih = absurd (let z : 1 ≤ length (those p xs) = some_pass xs j (omega arith) h in omega arith)
-      go false o ih = ih o (omega arith) h ∙ ap At (suc-add s j ∙ sym (add-suc s j))
+      go false o ih = ih o (omega arith) h ∙ ap Some (suc-add s j ∙ sym (add-suc s j))
 
 -- ---- the node of a number
 
 module _ (ns : List Node) (x : ℕ) where
-  pub by_found : (k : ℕ) → find_number ns x ≡ At k → node_by ns x ≡ node_at ns k
+  pub by_found : (k : ℕ) → find_number ns x ≡ Some k → node_by ns x ≡ node_at ns k
   unfolding node_in
   by_found k e = rw e refl
 
-  pub by_missing : find_number ns x ≡ Missing → node_by ns x ≡ no_node
+  pub by_missing : find_number ns x ≡ None → node_by ns x ≡ no_node
   unfolding node_in
   by_missing e = rw e refl
 
-  pub found_below : (k : ℕ) → find_number ns x ≡ At k → k < length ns
+  pub found_below : (k : ℕ) → find_number ns x ≡ Some k → k < length ns
   found_below k e = let z : k < 0 + length ns = first_below (is_number x) no_node 0 ns k e in omega arith
 
-  pub found_number : (k : ℕ) → find_number ns x ≡ At k → (node_at ns k).number ≡ x
-  found_number k e = number_of x (node_at ns k) (first_passes (is_number x) no_node 0 ns k (e ∙ ap At (sym (zero-add k))))
+  pub found_number : (k : ℕ) → find_number ns x ≡ Some k → (node_at ns k).number ≡ x
+  found_number k e = number_of x (node_at ns k) (first_passes (is_number x) no_node 0 ns k (e ∙ ap Some (sym (zero-add k))))
 
-  pub resident_found : Resident (node_by ns) x → (k : ℕ) × (find_number ns x ≡ At k)
+  pub resident_found : Resident (node_by ns) x → (k : ℕ) × (find_number ns x ≡ Some k)
   resident_found r = go (find_number ns x) refl
     where
-      go : (f : Found) → find_number ns x ≡ f → (k : ℕ) × (f ≡ At k)
-      go (At k) e = (k, refl)
-      go Missing e = absurd (r.0 (sym (sym (ap (λ (n : Node). n.number) (by_missing e)) ∙ r.1)))
+      go : (f : Option ℕ) → find_number ns x ≡ f → (k : ℕ) × (f ≡ Some k)
+      go (Some k) e = (k, refl)
+      go None e = absurd (r.0 (sym (sym (ap (λ (n : Node). n.number) (by_missing e)) ∙ r.1)))
 
-  pub found_resident : find_number ns 0 ≡ Missing → (k : ℕ) → find_number ns x ≡ At k → Resident (node_by ns) x
+  pub found_resident : find_number ns 0 ≡ None → (k : ℕ) → find_number ns x ≡ Some k → Resident (node_by ns) x
   found_resident z k e = (
-    (λ q. absurd (let w : At k ≡ Missing = sym e ∙ (ap (find_number ns) q ∙ z) in let o : ◌≡◌ {A = ℕ} 0 1 = cc in omega arith)),
+    (λ q. absurd (let w : Some k ≡ None = sym e ∙ (ap (find_number ns) q ∙ z) in let o : ◌≡◌ {A = ℕ} 0 1 = cc in omega arith)),
     ap (λ (n : Node). n.number) (by_found k e) ∙ found_number k e,
   )
 
-  pub missing_unknown : find_number ns x ≡ Missing → Resident (node_by ns) x → ⊥
+  pub missing_unknown : find_number ns x ≡ None → Resident (node_by ns) x → ⊥
   missing_unknown e r =
-      let t : (k : ℕ) × (find_number ns x ≡ At k) = resident_found r in
-      let w : Missing ≡ At t.0 = sym e ∙ t.1 in
+      let t : (k : ℕ) × (find_number ns x ≡ Some k) = resident_found r in
+      let w : None ≡ Some t.0 = sym e ∙ t.1 in
       absurd (let o : ◌≡◌ {A = ℕ} 0 1 = cc in omega arith)
 
-  pub unknown_missing : find_number ns 0 ≡ Missing → (Resident (node_by ns) x → ⊥) → find_number ns x ≡ Missing
+  pub unknown_missing : find_number ns 0 ≡ None → (Resident (node_by ns) x → ⊥) → find_number ns x ≡ None
   unknown_missing z h = go (find_number ns x) refl
     where
-      go : (f : Found) → find_number ns x ≡ f → f ≡ Missing
-      go (At k) e = absurd (h (found_resident z k e))
-      go Missing e = refl
+      go : (f : Option ℕ) → find_number ns x ≡ f → f ≡ None
+      go (Some k) e = absurd (h (found_resident z k e))
+      go None e = refl
 
 -- ---- and of a place, where numbers are distinct
 module _ (ns : List Node) (once : (x : ℕ) → length (those (is_number x) ns) ≤ 1) (j : ℕ) (l : j < length ns) where
-  pub place_found : find_number ns (node_at ns j).number ≡ At j
-  place_found = only_place (is_number (node_at ns j).number) no_node 0 ns j (once (node_at ns j).number) l (is_number_lem (node_at ns j).number (node_at ns j) refl) ∙ ap At (zero-add j)
+  pub place_found : find_number ns (node_at ns j).number ≡ Some j
+  place_found = only_place (is_number (node_at ns j).number) no_node 0 ns j (once (node_at ns j).number) l (is_number_lem (node_at ns j).number (node_at ns j) refl) ∙ ap Some (zero-add j)
 
   pub place_by : node_by ns (node_at ns j).number ≡ node_at ns j
   place_by = by_found ns (node_at ns j).number j place_found
 
-  pub place_resident : find_number ns 0 ≡ Missing → Resident (node_by ns) (node_at ns j).number
+  pub place_resident : find_number ns 0 ≡ None → Resident (node_by ns) (node_at ns j).number
   place_resident z = found_resident ns (node_at ns j).number z j place_found
 
 -- ---- children
 
 module _ (ns : List Node) (p : ℕ) (y : Name) where
-  pub child_place : (k : ℕ) → find_child ns p y ≡ At k → (k < length ns) × (key_of (node_at ns k) ≡ p ∷ y)
+  pub child_place : (k : ℕ) → find_child ns p y ≡ Some k → (k < length ns) × (key_of (node_at ns k) ≡ p ∷ y)
   child_place k e = (
     (let z : k < 0 + length ns = first_below (is_child p y) no_node 0 ns k e in omega arith),
-    child_key p y (node_at ns k) (first_passes (is_child p y) no_node 0 ns k (e ∙ ap At (sym (zero-add k)))),
+    child_key p y (node_at ns k) (first_passes (is_child p y) no_node 0 ns k (e ∙ ap Some (sym (zero-add k)))),
   )
 
   -- a name that is found has its node
-  pub child_there : ((x : ℕ) → length (those (is_number x) ns) ≤ 1) → find_number ns 0 ≡ Missing → (k : ℕ) → find_child ns p y ≡ At k → (i : ℕ) × Resident (node_by ns) i × (key_of (node_by ns i) ≡ p ∷ y)
+  pub child_there : ((x : ℕ) → length (those (is_number x) ns) ≤ 1) → find_number ns 0 ≡ None → (k : ℕ) → find_child ns p y ≡ Some k → (i : ℕ) × Resident (node_by ns) i × (key_of (node_by ns i) ≡ p ∷ y)
   child_there once z k e =
       let t : (k < length ns) × (key_of (node_at ns k) ≡ p ∷ y) = child_place k e in
       ((node_at ns k).number, place_resident ns once k t.0 z, ap key_of (place_by ns once k t.0) ∙ t.1)
 
   -- and a node is found by its name
-  pub there_child : (i : ℕ) → Resident (node_by ns) i → key_of (node_by ns i) ≡ p ∷ y → (k : ℕ) × (find_child ns p y ≡ At k)
+  pub there_child : (i : ℕ) → Resident (node_by ns) i → key_of (node_by ns i) ≡ p ∷ y → (k : ℕ) × (find_child ns p y ≡ Some k)
   there_child i r e =
-      let t : (k : ℕ) × (find_number ns i ≡ At k) = resident_found ns i r in
+      let t : (k : ℕ) × (find_number ns i ≡ Some k) = resident_found ns i r in
       let q : key_of (node_at ns t.0) ≡ p ∷ y = sym (ap key_of (by_found ns i t.0 t.1)) ∙ e in
-      let w : (k : ℕ) × (find_child ns p y ≡ At (0 + k)) × (is_child p y (node_at ns k) ≡ true) = first_found (is_child p y) no_node 0 ns t.0 (found_below ns i t.0 t.1) (is_child_lem p y (node_at ns t.0) q) in
-      (w.0, w.1 ∙ ap At (zero-add w.0))
+      let w : (k : ℕ) × (find_child ns p y ≡ Some (0 + k)) × (is_child p y (node_at ns k) ≡ true) = first_found (is_child p y) no_node 0 ns t.0 (found_below ns i t.0 t.1) (is_child_lem p y (node_at ns t.0) q) in
+      (w.0, w.1 ∙ ap Some (zero-add w.0))
 
-  pub child_unknown : find_child ns p y ≡ Missing → (i : ℕ) → Resident (node_by ns) i → key_of (node_by ns i) ≢ p ∷ y
+  pub child_unknown : find_child ns p y ≡ None → (i : ℕ) → Resident (node_by ns) i → key_of (node_by ns i) ≢ p ∷ y
   child_unknown m i r e =
-      let t : (k : ℕ) × (find_child ns p y ≡ At k) = there_child i r e in
-      let w : Missing ≡ At t.0 = sym m ∙ t.1 in
+      let t : (k : ℕ) × (find_child ns p y ≡ Some k) = there_child i r e in
+      let w : None ≡ Some t.0 = sym m ∙ t.1 in
       absurd (let o : ◌≡◌ {A = ℕ} 0 1 = cc in omega arith)
 
 -- one node for a parent and a name
 pub one_node : (ns : List Node) → Sorted key_of ns → (i k : ℕ) → Resident (node_by ns) i → Resident (node_by ns) k → key_of (node_by ns i) ≡ key_of (node_by ns k) → i ≡ k
 one_node ns s i k r q e =
-    let a : (m : ℕ) × (find_number ns i ≡ At m) = resident_found ns i r in
-    let b : (m : ℕ) × (find_number ns k ≡ At m) = resident_found ns k q in
+    let a : (m : ℕ) × (find_number ns i ≡ Some m) = resident_found ns i r in
+    let b : (m : ℕ) × (find_number ns k ≡ Some m) = resident_found ns k q in
     let n : Node = node_by ns k in
-    let place : (x m : ℕ) → find_number ns x ≡ At m → key_of (node_by ns x) ≡ key_of (node_by ns k) → find_child ns (node_by ns k).parent (node_name (node_by ns k)) ≡ At (0 + m) =
+    let place : (x m : ℕ) → find_number ns x ≡ Some m → key_of (node_by ns x) ≡ key_of (node_by ns k) → find_child ns (node_by ns k).parent (node_name (node_by ns k)) ≡ Some (0 + m) =
     λ x m f g. only_place (is_child (node_by ns k).parent (node_name (node_by ns k))) no_node 0 ns m (one_child (node_by ns k).parent (node_name (node_by ns k)) ns s) (found_below ns x m f) (is_child_lem (node_by ns k).parent (node_name (node_by ns k)) (node_at ns m) (sym (ap key_of (by_found ns x m f)) ∙ g)) in
-    let w : At (0 + a.0) ≡ At (0 + b.0) = sym (place i a.0 a.1 e) ∙ place k b.0 b.1 refl in
+    let w : Some (0 + a.0) ≡ Some (0 + b.0) = sym (place i a.0 a.1 e) ∙ place k b.0 b.1 refl in
     let z : a.0 ≡ b.0 = (let y : 0 + a.0 ≡ 0 + b.0 = cc in omega arith) in
     sym (found_number ns i a.0 a.1) ∙ (ap (λ (m : ℕ). (node_at ns m).number) z ∙ found_number ns k b.0 b.1)
 
@@ -188,30 +186,30 @@ module _ (ns : List Node) (k : ℕ) (a : Node) (e : a.number ≡ (node_at ns k).
   pub set_each : (P : Node → Node → Type 0) → ((b : Node) → P b b) → P a (node_at ns k) → (x : ℕ) → P (node_by (set ns k a) x) (node_by ns x)
   set_each P same changed x = go (find_number ns x) refl
     where
-      find : (f : Found) → find_number ns x ≡ f → find_number (set ns k a) x ≡ f
+      find : (f : Option ℕ) → find_number ns x ≡ f → find_number (set ns k a) x ≡ f
       find f h = number_changed ns k a e x ∙ h
 
-      at : (i : ℕ) → find_number ns x ≡ At i → Dec (i ≡ k) → P (node_at (set ns k a) i) (node_at ns i)
+      at : (i : ℕ) → find_number ns x ≡ Some i → Dec (i ≡ k) → P (node_at (set ns k a) i) (node_at ns i)
       at i h (yes q) =
           let l : k < length ns = (let z : i < length ns = found_below ns x i h in omega arith) in
           subst (λ (m : ℕ). P (node_at (set ns k a) m) (node_at ns m)) (sym q) (rw (get_or-set_same ns k a no_node l) changed)
       at i h (no q) = rw (get_or-set_other ns k i a no_node q) (same (node_at ns i))
 
-      go : (f : Found) → find_number ns x ≡ f → P (node_by (set ns k a) x) (node_by ns x)
-      go (At i) h = rw (by_found (set ns k a) x i (find (At i) h), by_found ns x i h) (at i h (ℕ_discrete i k))
-      go Missing h = rw (by_missing (set ns k a) x (find Missing h), by_missing ns x h) (same no_node)
+      go : (f : Option ℕ) → find_number ns x ≡ f → P (node_by (set ns k a) x) (node_by ns x)
+      go (Some i) h = rw (by_found (set ns k a) x i (find (Some i) h), by_found ns x i h) (at i h (ℕ_discrete i k))
+      go None h = rw (by_missing (set ns k a) x (find None h), by_missing ns x h) (same no_node)
 
-  pub by_set : (x : ℕ) → find_number ns x ≡ At k → node_by (set ns k a) x ≡ a
+  pub by_set : (x : ℕ) → find_number ns x ≡ Some k → node_by (set ns k a) x ≡ a
   by_set x h = by_found (set ns k a) x k (number_changed ns k a e x ∙ h) ∙ get_or-set_same ns k a no_node (found_below ns x k h)
 
   pub by_set_other : (x : ℕ) → x ≢ (node_at ns k).number → node_by (set ns k a) x ≡ node_by ns x
   by_set_other x h = go (find_number ns x) refl
     where
-      go : (f : Found) → find_number ns x ≡ f → node_by (set ns k a) x ≡ node_by ns x
-      go (At i) q =
+      go : (f : Option ℕ) → find_number ns x ≡ f → node_by (set ns k a) x ≡ node_by ns x
+      go (Some i) q =
           by_found (set ns k a) x i (number_changed ns k a e x ∙ q)
           ∙ (get_or-set_other ns k i a no_node (λ z. h (sym (found_number ns x i q) ∙ ap (λ (m : ℕ). (node_at ns m).number) z)) ∙ sym (by_found ns x i q))
-      go Missing q = by_missing (set ns k a) x (number_changed ns k a e x ∙ q) ∙ sym (by_missing ns x q)
+      go None q = by_missing (set ns k a) x (number_changed ns k a e x ∙ q) ∙ sym (by_missing ns x q)
 
   set_once : ((x : ℕ) → length (those (is_number x) ns) ≤ 1) → (x : ℕ) → length (those (is_number x) (set ns k a)) ≤ 1
   set_once o x = go (ltb k (length ns)) refl (is_number x a) refl
@@ -278,22 +276,22 @@ module _ (u v l : List ℕ) (ns : List Node) (next : ℕ) (g : GoodNodes u l ns 
 
 -- ---- a node put in with the next number; the layers may differ from before at its name
 
-module _ (ns : List Node) (q : Node) (h : find_child ns q.parent (node_name q) ≡ Missing) where
-  abbrev spot : (k : ℕ) × (place_for ns q.parent (node_name q) ≡ Free k)
+module _ (ns : List Node) (q : Node) (h : find_child ns q.parent (node_name q) ≡ None) where
+  abbrev spot : (k : ℕ) × (place_for ns q.parent (node_name q) ≡ Some k)
   spot = free_where_missing q.parent (node_name q) ns h
 
   pub by_other : (x : ℕ) → x ≢ q.number → node_by (insert_by key_of q ns) x ≡ node_by ns x
   unfolding found_shifted node_in
   by_other x e = go (find_number ns x) (number_kept ns q spot.0 spot.1 x (λ z. e (sym z)))
     where
-      go : (f : Found) → find_number (insert_by key_of q ns) x ≡ found_shifted spot.0 f → node_by (insert_by key_of q ns) x ≡ node_in ns f
-      go (At i) w = by_found (insert_by key_of q ns) x (shifted spot.0 i) w ∙ node_moved ns q spot.0 spot.1 i
-      go Missing w = by_missing (insert_by key_of q ns) x w
+      go : (f : Option ℕ) → find_number (insert_by key_of q ns) x ≡ found_shifted spot.0 f → node_by (insert_by key_of q ns) x ≡ node_in ns f
+      go (Some i) w = by_found (insert_by key_of q ns) x (shifted spot.0 i) w ∙ node_moved ns q spot.0 spot.1 i
+      go None w = by_missing (insert_by key_of q ns) x w
 
-  pub by_added : find_number ns q.number ≡ Missing → node_by (insert_by key_of q ns) q.number ≡ q
+  pub by_added : find_number ns q.number ≡ None → node_by (insert_by key_of q ns) q.number ≡ q
   by_added e = by_found (insert_by key_of q ns) q.number spot.0 (number_added ns q spot.0 spot.1 e) ∙ node_added ns q spot.0 spot.1
 
-  insert_once : find_number ns q.number ≡ Missing → ((x : ℕ) → length (those (is_number x) ns) ≤ 1) → (x : ℕ) → length (those (is_number x) (insert_by key_of q ns)) ≤ 1
+  insert_once : find_number ns q.number ≡ None → ((x : ℕ) → length (those (is_number x) ns) ≤ 1) → (x : ℕ) → length (those (is_number x) (insert_by key_of q ns)) ≤ 1
   insert_once e o x = rw (added_is ns q spot.0 spot.1) (go (ℕ_discrete q.number x))
     where
       go : Dec (q.number ≡ x) → length (those (is_number x) (insert_at spot.0 q ns)) ≤ 1
@@ -309,12 +307,12 @@ module _ (u v l : List ℕ) (ns : List Node) (next : ℕ) (g : GoodNodes u l ns 
     (roots : root_stack v l ≡ root_stack u l)
     (stacks : (x : ℕ) → Resident (node_by ns) x → (y : Name) → (x ≡ q.parent → y ≡ node_name q → ⊥) → stack_of v l (stack_list (node_by ns x)) y ≡ stack_of u l (stack_list (node_by ns x)) y)
     (marks : (x : ℕ) → Resident (node_by ns) x → (y : Name) → (x ≡ q.parent → y ≡ node_name q → ⊥) → whiteout_of v l (stack_list (node_by ns x)) y ≡ whiteout_of u l (stack_list (node_by ns x)) y)
-    (number : q.number ≡ next) (last : next ≤ 4294967295) (there : Resident (node_by ns) q.parent) (missing : find_child ns q.parent (node_name q) ≡ Missing)
+    (number : q.number ≡ next) (last : next ≤ 4294967295) (there : Resident (node_by ns) q.parent) (missing : find_child ns q.parent (node_name q) ≡ None)
   where
     new_unknown : Resident (node_by ns) q.number → ⊥
     new_unknown r = let z : q.number < next = g.below_next q.number r in omega arith
 
-    new_missing : find_number ns q.number ≡ Missing
+    new_missing : find_number ns q.number ≡ None
     new_missing = unknown_missing ns q.number g.none_zero new_unknown
 
     pub new_by : node_by (insert_by key_of q ns) q.number ≡ q
@@ -378,18 +376,18 @@ at_removed {A} d k xs i h =
     let l : suc (length (remove_at k xs)) ≡ length xs = length_remove k xs h in
     ap (λ (ys : List A). get_or ys (shifted k i) d) (sym (put_back d k xs h)) ∙ at_shifted d k (get_or xs k d) (remove_at k xs) i (omega arith)
 
-missing_shifted : (k : ℕ) (f : Found) → Missing ≡ found_shifted k f → f ≡ Missing
+missing_shifted : (k : ℕ) (f : Option ℕ) → None ≡ found_shifted k f → f ≡ None
 unfolding found_shifted
-missing_shifted k (At i) e = absurd (let o : ◌≡◌ {A = ℕ} 0 1 = cc in omega arith)
-missing_shifted k Missing e = refl
+missing_shifted k (Some i) e = absurd (let o : ◌≡◌ {A = ℕ} 0 1 = cc in omega arith)
+missing_shifted k None e = refl
 
 module _ (ns : List Node) (k : ℕ) (l : k < length ns) where
   pub by_left : (x : ℕ) → (node_at ns k).number ≢ x → node_by (remove_at k ns) x ≡ node_by ns x
   by_left x e = go (find_number (remove_at k ns) x) refl (number_left ns k l x e)
     where
-      go : (f : Found) → find_number (remove_at k ns) x ≡ f → find_number ns x ≡ found_shifted k f → node_by (remove_at k ns) x ≡ node_by ns x
-      go (At i) a b = by_found (remove_at k ns) x i a ∙ (sym (at_removed no_node k ns i l) ∙ sym (by_found ns x (shifted k i) (unfold found_shifted in b)))
-      go Missing a b = by_missing (remove_at k ns) x a ∙ sym (by_missing ns x (unfold found_shifted in b))
+      go : (f : Option ℕ) → find_number (remove_at k ns) x ≡ f → find_number ns x ≡ found_shifted k f → node_by (remove_at k ns) x ≡ node_by ns x
+      go (Some i) a b = by_found (remove_at k ns) x i a ∙ (sym (at_removed no_node k ns i l) ∙ sym (by_found ns x (shifted k i) (unfold found_shifted in b)))
+      go None a b = by_missing (remove_at k ns) x a ∙ sym (by_missing ns x (unfold found_shifted in b))
 
   remove_once : ((x : ℕ) → length (those (is_number x) ns) ≤ 1) → (x : ℕ) → length (those (is_number x) (remove_at k ns)) ≤ 1
   remove_once o x = go (is_number x (node_at ns k)) refl
@@ -400,16 +398,15 @@ module _ (ns : List Node) (k : ℕ) (l : k < length ns) where
 
 -- a node has no children where no resident node has it for its parent
 pub no_children : (ns : List Node) (m : ℕ) → has_children ns m ≡ false → (i : ℕ) → Resident (node_by ns) i → (node_by ns i).parent ≢ m
-unfolding is_found
 no_children ns m h i r e =
-    let t : (k : ℕ) × (find_number ns i ≡ At k) = resident_found ns i r in
-    let w : (k : ℕ) × (child_from ns m 0 ≡ At (0 + k)) × (has_parent m (node_at ns k) ≡ true) =
+    let t : (k : ℕ) × (find_number ns i ≡ Some k) = resident_found ns i r in
+    let w : (k : ℕ) × (child_from ns m 0 ≡ Some (0 + k)) × (has_parent m (node_at ns k) ≡ true) =
     first_found (has_parent m) no_node 0 ns t.0 (found_below ns i t.0 t.1) (is_parent m (node_at ns t.0) (sym (ap (λ (n : Node). n.parent) (by_found ns i t.0 t.1)) ∙ e)) in
-    let z : true ≡ false = sym (ap is_found w.1) ∙ h in
+    let z : true ≡ false = sym (ap is_some w.1) ∙ h in
     absurd (let o : ◌≡◌ {A = ℕ} 0 1 = cc in omega arith)
 
 module _ (u l : List ℕ) (ns : List Node) (next : ℕ) (g : GoodNodes u l ns next) (k : ℕ) (b : k < length ns) (kids : has_children ns (node_at ns k).number ≡ false) where
-  pub removed_missing : find_number (remove_at k ns) (node_at ns k).number ≡ Missing
+  pub removed_missing : find_number (remove_at k ns) (node_at ns k).number ≡ None
   removed_missing = number_gone ns k b (node_at ns k).number refl (g.once (node_at ns k).number)
 
   removed_unknown : Resident (node_by (remove_at k ns)) (node_at ns k).number → ⊥
@@ -451,27 +448,27 @@ module _ (u l : List ℕ) (ns : List Node) (next : ℕ) (g : GoodNodes u l ns ne
 
 -- ---- the root stands first
 
-before_none : (p : ℕ) (x : Name) → order_of (p ∷ x) (0 ∷ []) ≢ Before
+before_none : (p : ℕ) (x : Name) → order_of (p ∷ x) (0 ∷ []) ≢ Less
 unfolding order_of
 before_none p x h = go (ltb 0 p) x (sym (rw (le-ltb p 0 (omega arith)) refl) ∙ h)
   where
-    go : (b : Bool) (x : Name) → cond b After (order_of x []) ≡ Before → ⊥
+    go : (b : Bool) (x : Name) → cond b Greater (order_of x []) ≡ Less → ⊥
     go true x e = absurd (let o : ◌≡◌ {A = ℕ} 0 1 = cc in omega arith)
     go false [] e = absurd (let o : ◌≡◌ {A = ℕ} 0 1 = cc in omega arith)
     go false (y ∷ x) e = absurd (let o : ◌≡◌ {A = ℕ} 0 1 = cc in omega arith)
 
-pub root_first : (u l : List ℕ) (ns : List Node) (next : ℕ) → GoodNodes u l ns next → find_number ns 1 ≡ At 0
+pub root_first : (u l : List ℕ) (ns : List Node) (next : ℕ) → GoodNodes u l ns next → find_number ns 1 ≡ Some 0
 root_first u l ns next g = go (resident_found ns 1 g.coherent.root_there)
   where
-    at : (k : ℕ) → find_number ns 1 ≡ At k → k ≡ 0
+    at : (k : ℕ) → find_number ns 1 ≡ Some k → k ≡ 0
     at zero e = refl
     at (suc k) e = absurd (before_none (node_at ns 0).parent (node_name (node_at ns 0)) (ap (order_of (key_of (node_at ns 0))) (sym key) ∙ sorted_place key_of no_node ns g.sorted 0 (suc k) (omega arith) (found_below ns 1 (suc k) e)))
       where
         key : key_of (node_at ns (suc k)) ≡ 0 ∷ []
         key = sym (ap key_of (by_found ns 1 (suc k) e)) ∙ g.coherent.root_key
 
-    go : (k : ℕ) × (find_number ns 1 ≡ At k) → find_number ns 1 ≡ At 0
-    go t = t.1 ∙ ap At (at t.0 t.1)
+    go : (k : ℕ) × (find_number ns 1 ≡ Some k) → find_number ns 1 ≡ Some 0
+    go t = t.1 ∙ ap Some (at t.0 t.1)
 
 -- ---- each stack is the merge afresh down the node's path
 

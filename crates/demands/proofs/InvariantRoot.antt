@@ -1,4 +1,5 @@
 -- The state with the root alone: what holds of it before its load. Assumes nothing.
+use Rattle.std.specs.Prelude.{None}
 use mathlib.Core.Path.{◌≡◌, refl, sym, ap, ◌∙◌}
 use mathlib.Core.Logic.{◌≢◌}
 use Prim.Native.Nat.{ℕ, ◌+◌, ◌*◌, ◌-◌, ◌/◌, ◌≤◌, ◌<◌}
@@ -12,7 +13,6 @@ use lib.Seq.{get_or-drop}
 use borrow.Author.Tests.{lt-leb}
 use Rattle.layers.specs.Search.{first_from}
 use Rattle.layers.specs.Order.{insert_by, spot_from}
-use Rattle.layers.specs.declared.search.Found.TheVariants.{Missing}
 use Rattle.layers.proofs.Numbers.{length_laid}
 use Rattle.layers.proofs.Padded.{get_or_all}
 use Rattle.merge.specs.declared.node.Node.{Node}
@@ -66,7 +66,7 @@ module _ (u l : List ℕ) where
   unfolding first_from node_in
   only_root x e = rw (is_number_lem x root (root_number ∙ sym e)) refl
 
-  no_other : (x : ℕ) → x ≢ 1 → find_number (root ∷ []) x ≡ Missing
+  no_other : (x : ℕ) → x ≢ 1 → find_number (root ∷ []) x ≡ None
   unfolding first_from
   no_other x e = rw (other_number x root (λ z. e (sym z ∙ root_number))) refl
 

@@ -1,4 +1,5 @@
 -- No two nodes share an upper directory, so that a change of the upper layer at one name concerns one node. Assumes nothing.
+use Rattle.std.specs.Prelude.{Option, Some, None}
 use mathlib.Core.Path.{◌≡◌, refl, sym, ap, ap₂, ◌∙◌, subst}
 use mathlib.Core.Logic.{◌≢◌}
 use Prim.Native.Nat.{ℕ, zero, suc, ◌<◌}
@@ -15,15 +16,11 @@ use Rattle.layers.specs.Items.{entries_of, records_of, entry_at, record_at, free
 use Rattle.layers.specs.Search.{name_of, names, search_of}
 use Rattle.layers.specs.Rules.{Used, Valid}
 use Rattle.layers.specs.declared.items.Entry.{Entry}
-use Rattle.layers.specs.declared.search.Found.{Found}
-use Rattle.layers.specs.declared.search.Found.TheVariants.{At, Missing}
 use Rattle.layers.proofs.ChangeLaws.{first_passes}
 use Rattle.layers.proofs.RuleFacts.{directory_once}
 use Rattle.merge.specs.declared.stacks.Pair.{Pair}
 use Rattle.merge.specs.declared.stacks.Class.{Class}
 use Rattle.merge.specs.declared.stacks.Class.TheVariants.{Whiteout, Other, Plain, Opaque}
-use Rattle.merge.specs.declared.stacks.Seen.{Seen}
-use Rattle.merge.specs.declared.stacks.Seen.TheVariants.{Nothing, There}
 use Rattle.merge.specs.declared.node.Node.{Node}
 use Rattle.merge.specs.Nodes.{node_name, key_of}
 use Rattle.merge.specs.Tables.{table_of}
@@ -89,13 +86,16 @@ module _ {A : Type 0} (c : A → Class) where
       go Opaque (here e) = here e
       go Opaque (there j) = absurd (in_nil j)
 
-seen_named : (t : List ℕ) (d : ℕ) (x : Name) (c : Class) (n : ℕ) → seen_of t d x ≡ There c n → (named (entries_of t) d x ≡ n) × (n ≢ 0)
+seen_named : (t : List ℕ) (d : ℕ) (x : Name) (c : Class) (n : ℕ) → seen_of t d x ≡ Some (c, n) → (named (entries_of t) d x ≡ n) × (n ≢ 0)
 unfolding seen_of
 seen_named t d x c n = go (eqb (named (entries_of t) d x) 0) refl
   where
-    go : (b : Bool) → eqb (named (entries_of t) d x) 0 ≡ b → cond b Nothing (There (class_at t d (named (entries_of t) d x)) (named (entries_of t) d x)) ≡ There c n → (named (entries_of t) d x ≡ n) × (n ≢ 0)
+    go : (b : Bool) → eqb (named (entries_of t) d x) 0 ≡ b → cond {A = Option (Class × ℕ)} b None (Some (class_at t d (named (entries_of t) d x), named (entries_of t) d x)) ≡ Some (c, n) → (named (entries_of t) d x ≡ n) × (n ≢ 0)
     go true e h = absurd (let z : ◌≡◌ {A = ℕ} 0 1 = cc in omega arith)
-    go false e h = let z : named (entries_of t) d x ≡ n = cc in (z, λ q. eqb-false (named (entries_of t) d x) 0 e (z ∙ q))
+    go false e h =
+        let w : ◌≡◌ {A = Class × ℕ} (class_at t d (named (entries_of t) d x), named (entries_of t) d x) (c, n) = cc in
+        let z : named (entries_of t) d x ≡ n = ap (λ (p : Class × ℕ). p.1) w in
+        (z, λ q. eqb-false (named (entries_of t) d x) 0 e (z ∙ q))
 
 module _ (u l : List ℕ) where
   -- the scan walks directories of the stack
@@ -130,12 +130,12 @@ module _ (u l : List ℕ) where
       up : From x s r.place → From x (q ∷ s) r.place
       up f = (f.0, there f.1, f.2, f.3, f.4)
 
-      go : (k : Seen) → seen_of (table_of u l q.layer) q.number x ≡ k → In r (seen_then q.layer k (collect u l x s)) → (In r (collect u l x s) → From x s r.place) → From x (q ∷ s) r.place
-      go Nothing e j f = up (f j)
-      go (There c n) e (here p) f =
+      go : (k : Option (Class × ℕ)) → seen_of (table_of u l q.layer) q.number x ≡ k → In r (seen_then q.layer k (collect u l x s)) → (In r (collect u l x s) → From x s r.place) → From x (q ∷ s) r.place
+      go None e j f = up (f j)
+      go (Some (c, n)) e (here p) f =
           let t : (named (entries_of (table_of u l q.layer)) q.number x ≡ n) × (n ≢ 0) = seen_named (table_of u l q.layer) q.number x c n e in
           (q, here refl, ap (λ (z : Real). z.place.layer) (sym p), t.0 ∙ ap (λ (z : Real). z.place.number) (sym p), λ z. t.1 (ap (λ (z : Real). z.place.number) (sym p) ∙ z))
-      go (There c n) e (there j) f = up (f j)
+      go (Some (c, n)) e (there j) f = up (f j)
 
   pub stack_above : (x : Name) (s : List Pair) {r : Pair} → In r (stack_of u l s x) → Above x s r
   unfolding stack_of
@@ -167,12 +167,12 @@ pub found_parts : (es : List Entry) (d : ℕ) (x : Name) (c : ℕ) → named es 
 unfolding child_at
 found_parts es d x c h z = go (search_of es d x) refl h
   where
-    go : (f : Found) → search_of es d x ≡ f → child_at es f ≡ c → (j : ℕ) × Used es j × ((entry_at es j).child ≡ c) × ((entry_at es j).parent ≡ d) × (name_of (entry_at es j) ≡ x)
-    go (At j) e q =
-        let p : names d x (entry_at es j) ≡ true = first_passes (names d x) free_entry 0 es j (e ∙ ap At (sym (zero-add j))) in
+    go : (f : Option ℕ) → search_of es d x ≡ f → child_at es f ≡ c → (j : ℕ) × Used es j × ((entry_at es j).child ≡ c) × ((entry_at es j).parent ≡ d) × (name_of (entry_at es j) ≡ x)
+    go (Some j) e q =
+        let p : names d x (entry_at es j) ≡ true = first_passes (names d x) free_entry 0 es j (e ∙ ap Some (sym (zero-add j))) in
         let t : ((entry_at es j).parent ≡ d) × (name_of (entry_at es j) ≡ x) = names_parts d x (entry_at es j) p in
         (j, names_used d x (entry_at es j) p, q, t.0, t.1)
-    go Missing e q = absurd (z (sym q))
+    go None e q = absurd (z (sym q))
 
 -- "children exist": no entry of a valid table names record 0
 pub valid_children : (u l : List ℕ) → ((k : ℕ) → length (table_of u l k) ≡ 8192 → Valid (table_of u l k)) → (k : ℕ) → ChildrenExist (entries_of (table_of u l k))

@@ -1,4 +1,5 @@
 -- A change of the upper layer at one name of one directory, with the node of that name: a step that keeps the invariant. Assumes nothing.
+use Rattle.std.specs.Prelude.{None}
 use mathlib.Core.Path.{◌≡◌, sym, ap, ap₂, ◌∙◌}
 use mathlib.Core.Logic.{◌≢◌}
 use Prim.Native.Nat.{ℕ}
@@ -9,7 +10,6 @@ use Rattle.layers.specs.Names.{Name}
 use Rattle.layers.specs.Items.{records_of, record_at}
 use Rattle.layers.specs.Search.{one}
 use Rattle.layers.specs.Rules.{Valid}
-use Rattle.layers.specs.declared.search.Found.TheVariants.{Missing}
 use Rattle.merge.specs.declared.node.Node.{Node}
 use Rattle.merge.specs.Nodes.{node_name, key_of, nodes_of}
 use Rattle.merge.specs.State.{find_child}
@@ -74,7 +74,7 @@ module _ (u l s : List ℕ) (g : Good u l s) (v : Valid u) where
             }
 
     -- the name has no node, and `n` is put in for it
-    module _ (n : Node) (key : key_of n ≡ p ∷ x) (missing : find_child (nodes_of s) p x ≡ Missing) (stack : stack_list n ≡ stack_of w l (stack_list (f p)) x) (some : stack_list n ≢ []) (white : n.white ≡ one (whiteout_of w l (stack_list (f p)) x)) (fresh : is_loaded n ≡ false) where
+    module _ (n : Node) (key : key_of n ≡ p ∷ x) (missing : find_child (nodes_of s) p x ≡ None) (stack : stack_list n ≡ stack_of w l (stack_list (f p)) x) (some : stack_list n ≢ []) (white : n.white ≡ one (whiteout_of w l (stack_list (f p)) x)) (fresh : is_loaded n ≡ false) where
       parent_n : n.parent ≡ p
       parent_n = cc
 

@@ -1,4 +1,5 @@
 -- What a link does where no upper whiteout is deleted keeps what holds between calls. Assumes nothing.
+use Rattle.std.specs.Prelude.{Option, Some, None, Result, Ok, Err}
 use mathlib.Core.Path.{◌≡◌, refl, sym, ap, ◌∙◌, subst}
 use mathlib.Core.Logic.{◌≢◌}
 use Prim.Native.Nat.{ℕ, zero, suc, ◌+◌, ◌≤◌, ◌<◌}
@@ -17,13 +18,9 @@ use Rattle.layers.specs.Change.{entry_naming}
 use Rattle.layers.specs.Items.{records_of, entries_of, FitsTail}
 use Rattle.layers.specs.Search.{one, free_entry_place, free_record_place, used_entries, used_records}
 use Rattle.layers.specs.Rules.{WellFormed, Valid}
-use Rattle.layers.specs.declared.search.Found.{Found}
-use Rattle.layers.specs.declared.search.Found.TheVariants.{At, Missing}
 use Rattle.layers.proofs.EveryLaws.{no_true}
 use Rattle.layers.proofs.RuleFacts.{present_below}
 use Rattle.merge.specs.declared.node.Node.{Node}
-use Rattle.merge.specs.declared.seat.Seat.{Seat}
-use Rattle.merge.specs.declared.seat.Seat.TheVariants.{Held, Open}
 use Rattle.merge.specs.Seats.{middle, seat_in, seat_of}
 use Rattle.merge.specs.declared.stacks.Pair.{Pair}
 use Rattle.merge.specs.Nodes.{no_node, node_name, key_of, capacity, count_of, nodes_of, node_at}
@@ -138,10 +135,10 @@ module _ (t l s : List ℕ) (v : Valid t) (sound : SoundLayers t l) (g : Good t 
       keeps : Keeps l after
       keeps = file_keeps t l s v sound g upper_bytes lower_bytes j b room_records room_entries white low file
 
-      fr : (i : ℕ) × (free_record_place (records_of m.table) ≡ At i)
+      fr : (i : ℕ) × (free_record_place (records_of m.table) ≡ Some i)
       fr = free t l s v sound g upper_bytes lower_bytes j b room_records room_entries white low file
 
-      fe : (i : ℕ) × (free_entry_place (entries_of m.table) ≡ At i)
+      fe : (i : ℕ) × (free_entry_place (entries_of m.table) ≡ Some i)
       fe = room t l s v sound g upper_bytes lower_bytes j b room_records room_entries white low file
 
       tl : FitsTail (top_record m.table l (node_at (nodes_of m.state) j))
@@ -378,7 +375,7 @@ module _ (t l s : List ℕ) (v : Valid t) (sound : SoundLayers t l) (g : Good t 
     number_k : (node_at (nodes_of w.state) k).number ≡ (node_at (nodes_of s) k).number
     number_k = r.number_same k ∙ q.number_same k
 
-    free_entry_lem : (i : ℕ) × (free_entry_place (entries_of w.table) ≡ At i)
+    free_entry_lem : (i : ℕ) × (free_entry_place (entries_of w.table) ≡ Some i)
     free_entry_lem =
         let a : length (missing_from 17 u.state k) + length (missing_from 17 s j) ≤ missing_either s j k = both in
         let c : length (missing_from 16 u.state k) ≤ length (missing_from 17 u.state k) = missing_fewer u.state 16 k in
@@ -389,7 +386,7 @@ module _ (t l s : List ℕ) (v : Valid t) (sound : SoundLayers t l) (g : Good t 
     seat_w : (x : Name) → seat_of (nodes_of w.state) (node_at (nodes_of w.state) k).number x ≡ seat_of (nodes_of s) (node_at (nodes_of s) k).number x
     seat_w x = ap (λ (p : ℕ). seat_of (nodes_of w.state) p x) number_k ∙ seat_same s w.state count_w (λ i. r.key_same i ∙ q.key_same i) (node_at (nodes_of s) k).number x
 
-    linked_bytes : (z : Seat) (x : Name) → AllBytes x → AllBytes (linked j k z x w).table
+    linked_bytes : (z : Result ℕ ℕ) (x : Name) → AllBytes x → AllBytes (linked j k z x w).table
     unfolding linked
     linked_bytes z x h =
         let c : (1 ≤ (top_of (node_at (nodes_of w.state) j)).number) × ((top_of (node_at (nodes_of w.state) j)).number ≤ 128) = present_below w.table (top_of (node_at (nodes_of w.state) j)).number (source_there w.table l w.state r.valid r.good j bj_w upper_j file_j) in
@@ -397,35 +394,35 @@ module _ (t l s : List ℕ) (v : Valid t) (sound : SoundLayers t l) (g : Good t 
         added_entry_bytes w.table bytes_w (entry_naming (top_of (node_at (nodes_of w.state) k)).number x (top_of (node_at (nodes_of w.state) j)).number)
         (naming_bytes (top_of (node_at (nodes_of w.state) k)).number x (top_of (node_at (nodes_of w.state) j)).number (walked_byte w.table r.valid (top_of (node_at (nodes_of w.state) k)).number walked_k) (omega arith) h)
 
-    without : (f : Found) → linkable l j k f Missing (up t s) ≡ w
+    without : (f : Option ℕ) → linkable l j k f None (up t s) ≡ w
     unfolding without_whiteout
     without f = refl
 
     -- a name without a node gets one
-    module _ (loaded : is_loaded (node_at (nodes_of s) k) ≡ true) (x : Name) (name_bytes : AllBytes x) (well : WellFormed x) (short : length x ≤ 28) (z : ℕ) (seat : seat_of (nodes_of s) (node_at (nodes_of s) k).number x ≡ Open z) (more : suffices s 1 ≡ true) where
+    module _ (loaded : is_loaded (node_at (nodes_of s) k) ≡ true) (x : Name) (name_bytes : AllBytes x) (well : WellFormed x) (short : length x ≤ 28) (z : ℕ) (seat : seat_of (nodes_of s) (node_at (nodes_of s) k).number x ≡ Err z) (more : suffices s 1 ≡ true) where
       loaded_w : is_loaded (node_at (nodes_of w.state) k) ≡ true
       loaded_w = r.loaded_same k ∙ (q.loaded_same k ∙ loaded)
 
-      open_w : seat_of (nodes_of w.state) (node_at (nodes_of w.state) k).number x ≡ Open z
+      open_w : seat_of (nodes_of w.state) (node_at (nodes_of w.state) k).number x ≡ Err z
       open_w = seat_w x ∙ seat
 
       more_w : suffices w.state 1 ≡ true
       more_w = suffices_same s w.state (r.length_same ∙ q.length_same) count_w (r.next_same ∙ q.next_same) 1 ∙ more
 
-      new_keeps : Keeps l (linked j k (Open z) x (up w.table w.state))
+      new_keeps : Keeps l (linked j k (Err z) x (up w.table w.state))
       new_keeps =
           record {
             good = linked_good w.table l w.state r.valid r.good j bj_w upper_j file_j k bk_w r.upper walked_k loaded_w x well short z open_w free_entry_lem.0 free_entry_lem.1 white_j more_w
                 (seated_as_new w.state r.good.nodes.sorted (node_at (nodes_of w.state) k).number x short z open_w (top_of (node_at (nodes_of w.state) j)).number);
             sound = linked_sound w.table l w.state r.valid r.good j bj_w upper_j file_j k bk_w r.upper walked_k loaded_w x well short z open_w free_entry_lem.0 free_entry_lem.1 r.sound;
-            bytes = linked_bytes (Open z) x name_bytes;
+            bytes = linked_bytes (Err z) x name_bytes;
           }
 
-      pub link_new_keeps : (f : Found) → Keeps l (linked j k (Open z) x (linkable l j k f Missing (up t s)))
-      link_new_keeps f = subst (λ (y : Up). Keeps l (linked j k (Open z) x y)) (sym (without f)) new_keeps
+      pub link_new_keeps : (f : Option ℕ) → Keeps l (linked j k (Err z) x (linkable l j k f None (up t s)))
+      link_new_keeps f = subst (λ (y : Up). Keeps l (linked j k (Err z) x y)) (sym (without f)) new_keeps
 
     -- the node of a name that has one, a whiteout's of a lower layer, gets the record
-    module _ (x : Name) (z : ℕ) (seat : seat_of (nodes_of s) (node_at (nodes_of s) k).number x ≡ Held z) (marked : is_white (node_at (nodes_of s) z) ≡ true) (lower : in_upper (node_at (nodes_of s) z) ≡ false) where
+    module _ (x : Name) (z : ℕ) (seat : seat_of (nodes_of s) (node_at (nodes_of s) k).number x ≡ Ok z) (marked : is_white (node_at (nodes_of s) z) ≡ true) (lower : in_upper (node_at (nodes_of s) z) ≡ false) where
       held_s : (z < count_of s) × (key_of (node_at (nodes_of s) z) ≡ (node_at (nodes_of s) k).number ∷ x)
       held_s = held_place t l s g (node_at (nodes_of s) k).number x z seat
 
@@ -456,13 +453,13 @@ module _ (t l s : List ℕ) (v : Valid t) (sound : SoundLayers t l) (g : Good t 
           let y : node_name (node_at (nodes_of w.state) z) ≡ x = cc in
           subst AllBytes y (node_name_bytes w.table l w.state bytes_w lower_bytes r.good z held_w.0 (white_other w.table l w.state r.valid r.good z held_w.0 marked_w))
 
-      over_keeps : Keeps l (linked j k (Held z) x (up w.table w.state))
+      over_keeps : Keeps l (linked j k (Ok z) x (up w.table w.state))
       over_keeps =
           record {
             good = linked_over_good w.table l w.state r.valid r.good r.sound k bk_w r.upper walked_k z held_w.0 x held_w.1 marked_w lower_w j bj_w upper_j file_j free_entry_lem.0 free_entry_lem.1 white_j;
             sound = linked_over_sound w.table l w.state r.valid r.good r.sound k bk_w r.upper walked_k z held_w.0 x held_w.1 marked_w lower_w j bj_w upper_j file_j free_entry_lem.0 free_entry_lem.1;
-            bytes = linked_bytes (Held z) x name_w;
+            bytes = linked_bytes (Ok z) x name_w;
           }
 
-      pub link_over_keeps : (f : Found) → Keeps l (linked j k (Held z) x (linkable l j k f Missing (up t s)))
-      link_over_keeps f = subst (λ (y : Up). Keeps l (linked j k (Held z) x y)) (sym (without f)) over_keeps
+      pub link_over_keeps : (f : Option ℕ) → Keeps l (linked j k (Ok z) x (linkable l j k f None (up t s)))
+      link_over_keeps f = subst (λ (y : Up). Keeps l (linked j k (Ok z) x y)) (sym (without f)) over_keeps

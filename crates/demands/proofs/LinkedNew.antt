@@ -1,4 +1,6 @@
 -- What a link writes for a name that has no node: the upper table stays valid, and what holds between calls is kept. Assumes nothing.
+use Rattle.std.specs.Prelude.{Some, None, Err, Option}
+use Rattle.merge.specs.declared.stacks.Class.{Class}
 use mathlib.Core.Path.{◌≡◌, refl, sym, ap, ap₂, ◌∙◌, subst}
 use mathlib.Core.Logic.{◌≢◌}
 use Prim.Native.Nat.{ℕ, zero, suc, ◌≤◌, ◌<◌}
@@ -15,7 +17,6 @@ use Rattle.layers.specs.Change.{entry_naming, added_entry, AddEntry}
 use Rattle.layers.specs.Rules.{Present, WellFormed, Valid}
 use Rattle.layers.specs.declared.items.Record.{Record}
 use Rattle.layers.specs.declared.items.Entry.{Entry}
-use Rattle.layers.specs.declared.search.Found.TheVariants.{At, Missing}
 use Rattle.layers.proofs.EveryLaws.{no_true}
 use Rattle.layers.proofs.RuleDistinct.{names_exactly}
 use Rattle.layers.proofs.RuleFacts.{directory_present}
@@ -34,11 +35,8 @@ use Rattle.merge.specs.Fresh.{roots_from, root_stack}
 use Rattle.merge.specs.Load.{stack_list, suffices, is_loaded}
 use Rattle.merge.specs.Tidy.{Tidy}
 use Rattle.merge.specs.declared.node.Node.{Node}
-use Rattle.merge.specs.declared.seat.Seat.TheVariants.{Open}
 use Rattle.merge.specs.declared.stacks.Pair.{Pair}
 use Rattle.merge.specs.declared.stacks.Class.TheVariants.{Other}
-use Rattle.merge.specs.declared.stacks.Seen.{Seen}
-use Rattle.merge.specs.declared.stacks.Seen.TheVariants.{Nothing, There}
 use Rattle.merge.proofs.StateLaws.{length_nodes}
 use Rattle.merge.proofs.TableLaws.{table_upper}
 use Rattle.merge.proofs.ClassLaws.{seen_there, directory_walked}
@@ -65,7 +63,7 @@ use Rattle.demands.proofs.SoundUpper.{sound_changed}
 
 -- ---- the record `c`, which is there and no directory, under the name `x` of the directory `d`, which has it not
 
-module _ (t : List ℕ) (v : Valid t) (d : ℕ) (walked : is_walked t d ≡ true) (x : Name) (well : WellFormed x) (short : length x ≤ 28) (absent : search_of (entries_of t) d x ≡ Missing) (c : ℕ) (there : Present (records_of t) c) (file : is_directory (record_at (records_of t) c) ≡ false) (i : ℕ) (free : free_entry_place (entries_of t) ≡ At i) where
+module _ (t : List ℕ) (v : Valid t) (d : ℕ) (walked : is_walked t d ≡ true) (x : Name) (well : WellFormed x) (short : length x ≤ 28) (absent : search_of (entries_of t) d x ≡ None) (c : ℕ) (there : Present (records_of t) c) (file : is_directory (record_at (records_of t) c) ≡ false) (i : ℕ) (free : free_entry_place (entries_of t) ≡ Some i) where
   abbrev link : List ℕ
   link = added_entry t (entry_naming d x c)
 
@@ -107,7 +105,7 @@ module _ (t : List ℕ) (v : Valid t) (d : ℕ) (walked : is_walked t d ≡ true
 
   -- where the record is no whiteout, the name's stack is the record alone
   module _ (live : is_whiteout (record_at (records_of t) c) ≡ false) where
-    link_seen : seen_of link d x ≡ There Other c
+    link_seen : seen_of link d x ≡ Some (Other, c)
     unfolding class_at
     link_seen =
         sym (seen_there link d x c (sym link_named) (λ z. there (ap (λ (q : ℕ). (record_at (records_of t) q).number) z)) Other
@@ -120,7 +118,7 @@ module _ (t : List ℕ) (v : Valid t) (d : ℕ) (walked : is_walked t d ≡ true
       top_walked_lem : is_walked (table_of link l 0) d ≡ true
       top_walked_lem = ap (λ (w : List ℕ). is_walked w d) in_link ∙ link_walked
 
-      top_seen : seen_of (table_of link l 0) d x ≡ There Other c
+      top_seen : seen_of (table_of link l 0) d x ≡ Some (Other, c)
       top_seen = ap (λ (w : List ℕ). seen_of w d x) in_link ∙ link_seen
 
       pub link_stack : stack_of link l (pair 0 d ∷ ps) x ≡ pair 0 c ∷ []
@@ -242,29 +240,29 @@ module _ (t l s : List ℕ) (v : Valid t) (g : Good t l s) (k : ℕ) (b : k < co
       let q : (q : List Pair) × (stack_list parent ≡ top_of parent ∷ q) = top_first parent parent_some in
       (q.0, ap stack_list parent_by ∙ (q.1 ∙ ap (λ (a : Pair). a ∷ q.0) (pair_is (top_of parent) 0 d (eqb-true (top_of parent).layer 0 upper) refl)))
 
-  module _ (loaded : is_loaded (node_at (nodes_of s) k) ≡ true) (x : Name) (missing : find_child (nodes_of s) (node_at (nodes_of s) k).number x ≡ Missing) where
-    parent_unseen : seen_of t d x ≡ Nothing
+  module _ (loaded : is_loaded (node_at (nodes_of s) k) ≡ true) (x : Name) (missing : find_child (nodes_of s) (node_at (nodes_of s) k).number x ≡ None) where
+    parent_unseen : seen_of t d x ≡ None
     parent_unseen = go (seen_of t d x) refl
       where
-        go : (e : Seen) → seen_of t d x ≡ e → e ≡ Nothing
-        go Nothing e = refl
-        go (There a m) e =
+        go : (e : Option (Class × ℕ)) → seen_of t d x ≡ e → e ≡ None
+        go None e = refl
+        go (Some (a, m)) e =
             let u : t ≡ table_of t l 0 = table_upper t l 0 refl v.size in
             let q : (q : List Pair) × (stack_of t l (pair 0 d ∷ parent_stack.0) x ≡ pair 0 m ∷ q) =
-            seen_starts t l d parent_stack.0 x a m (subst (λ (w : List ℕ). is_walked w d ≡ true) u walked) (subst (λ (w : List ℕ). seen_of w d x ≡ There a m) u e) in
+            seen_starts t l d parent_stack.0 x a m (subst (λ (w : List ℕ). is_walked w d ≡ true) u walked) (subst (λ (w : List ℕ). seen_of w d x ≡ Some (a, m)) u e) in
             let n : (i : ℕ) × Resident f i × (key_of (f i) ≡ p ∷ x) =
             g.complete p parent_there (ap is_loaded parent_by ∙ loaded) x (λ z. let y : pair 0 m ∷ q.0 ≡ [] = sym q.1 ∙ (sym (ap (λ (ps : List Pair). stack_of t l ps x) parent_stack.1) ∙ z) in let o : suc (length q.0) ≡ 0 = ap length y in omega arith) in
             absurd (child_unknown (nodes_of s) p x missing n.0 n.1 n.2)
 
     -- the directory has not the name
-    pub parent_absent : search_of (entries_of t) d x ≡ Missing
+    pub parent_absent : search_of (entries_of t) d x ≡ None
     parent_absent = unseen_missing t v d x parent_unseen
 
 -- ---- the link
 
 module _ (t l s : List ℕ) (v : Valid t) (g : Good t l s) (j : ℕ) (bj : j < count_of s) (upper_j : in_upper (node_at (nodes_of s) j) ≡ true) (no_directory : is_directory_node t l (node_at (nodes_of s) j) ≡ false)
     (k : ℕ) (bk : k < count_of s) (upper_k : in_upper (node_at (nodes_of s) k) ≡ true) (directory : is_walked t (top_of (node_at (nodes_of s) k)).number ≡ true) (loaded : is_loaded (node_at (nodes_of s) k) ≡ true)
-    (x : Name) (well : WellFormed x) (short : length x ≤ 28) (q : ℕ) (seat : seat_of (nodes_of s) (node_at (nodes_of s) k).number x ≡ Open q) (i : ℕ) (free : free_entry_place (entries_of t) ≡ At i)
+    (x : Name) (well : WellFormed x) (short : length x ≤ 28) (q : ℕ) (seat : seat_of (nodes_of s) (node_at (nodes_of s) k).number x ≡ Err q) (i : ℕ) (free : free_entry_place (entries_of t) ≡ Some i)
   where
     abbrev dir : ℕ
     dir = (top_of (node_at (nodes_of s) k)).number
@@ -281,11 +279,11 @@ module _ (t l s : List ℕ) (v : Valid t) (g : Good t l s) (j : ℕ) (bj : j < c
     abbrev new : Node
     new = upper_alone (node_at (nodes_of s) k).number x (top_of (node_at (nodes_of s) j)).number
 
-    no_node : find_child (nodes_of s) num x ≡ Missing
+    no_node : find_child (nodes_of s) num x ≡ None
     unfolding holder
     no_node = sym (sym (ap holder seat) ∙ seat_child (nodes_of s) g.nodes.sorted num x)
 
-    no_entry : search_of (entries_of t) dir x ≡ Missing
+    no_entry : search_of (entries_of t) dir x ≡ None
     no_entry = parent_absent t l s v g k bk upper_k directory loaded x no_node
 
     rec_there : Present (records_of t) rec
@@ -294,7 +292,7 @@ module _ (t l s : List ℕ) (v : Valid t) (g : Good t l s) (j : ℕ) (bj : j < c
     rec_file : is_directory (record_at (records_of t) rec) ≡ false
     rec_file = source_file t l s v g j bj upper_j no_directory
 
-    linked_table : (linked j k (Open q) x (up t s)).table ≡ w
+    linked_table : (linked j k (Err q) x (up t s)).table ≡ w
     unfolding linked
     linked_table = refl
 
@@ -302,11 +300,11 @@ module _ (t l s : List ℕ) (v : Valid t) (g : Good t l s) (j : ℕ) (bj : j < c
     w_valid = link_valid t v dir directory x well short no_entry rec rec_there rec_file i free
 
     -- the upper table keeps every rule
-    pub linked_valid : Valid (linked j k (Open q) x (up t s)).table
+    pub linked_valid : Valid (linked j k (Err q) x (up t s)).table
     linked_valid = subst Valid (sym linked_table) w_valid
 
     -- and so does every layer's
-    pub linked_sound : SoundLayers t l → SoundLayers (linked j k (Open q) x (up t s)).table l
+    pub linked_sound : SoundLayers t l → SoundLayers (linked j k (Err q) x (up t s)).table l
     linked_sound sound = subst (λ (y : List ℕ). SoundLayers y l) (sym linked_table) (link_sound t v dir directory x well short no_entry rec rec_there rec_file i free l sound)
 
     module _ (live : is_white (node_at (nodes_of s) j) ≡ false) (room : suffices s 1 ≡ true)
@@ -358,13 +356,13 @@ module _ (t l s : List ℕ) (v : Valid t) (g : Good t l s) (j : ℕ) (bj : j < c
         numbers : next_of s ≤ 4294967295
         numbers = let a : 1 ≤ numbers_left s = (suffices_both s 1 room).1 in omega arith
 
-        pub linked_state : (linked j k (Open q) x (up t s)).state ≡ new_bytes s (upper_alone (node_at (nodes_of s) k).number x (top_of (node_at (nodes_of s) j)).number)
+        pub linked_state : (linked j k (Err q) x (up t s)).state ≡ new_bytes s (upper_alone (node_at (nodes_of s) k).number x (top_of (node_at (nodes_of s) j)).number)
         unfolding linked named_state
         linked_state = seated
 
         -- what holds between calls holds of the table and the state
-        pub linked_good : Good (linked j k (Open q) x (up t s)).table l (linked j k (Open q) x (up t s)).state
+        pub linked_good : Good (linked j k (Err q) x (up t s)).table l (linked j k (Err q) x (up t s)).state
         linked_good =
-            subst (λ (y : List ℕ). Good (linked j k (Open q) x (up t s)).table l y) (sym linked_state)
+            subst (λ (y : List ℕ). Good (linked j k (Err q) x (up t s)).table l y) (sym linked_state)
             (subst (λ (y : List ℕ). Good y l (new_bytes s new)) (sym linked_table)
             (new_good t w l s g.nodes new tidy_is is_new (ap₂ (find_child (nodes_of s)) parent_is name_is ∙ no_node) not_full numbers g.blank g.complete))

@@ -1,4 +1,5 @@
 -- One missing directory made in the upper layer keeps what holds between calls. Assumes nothing.
+use Rattle.std.specs.Prelude.{Option, Some, None}
 use mathlib.Core.Path.{◌≡◌, refl, sym, ap, ◌∙◌, subst}
 use mathlib.Core.Logic.{◌≢◌}
 use Prim.Native.Nat.{ℕ, zero, suc, ◌≤◌, ◌<◌}
@@ -19,8 +20,6 @@ use Rattle.layers.specs.Rules.{Present, Used, WellFormed, GoodRecord, Reaches, V
 use Rattle.layers.specs.declared.items.Record.{Record}
 use Rattle.layers.specs.declared.items.Entry.{Entry}
 use Rattle.layers.specs.declared.kinds.Kind.TheVariants.{Directory}
-use Rattle.layers.specs.declared.search.Found.{Found}
-use Rattle.layers.specs.declared.search.Found.TheVariants.{At, Missing}
 use Rattle.layers.proofs.Padded.{naming_name, naming_named}
 use Rattle.layers.proofs.RuleDistinct.{names_exactly}
 use Rattle.layers.proofs.RuleFacts.{directory_present, root_present, parent_present, used_below}
@@ -30,8 +29,6 @@ use Rattle.merge.specs.declared.node.Node.{Node}
 use Rattle.merge.specs.declared.stacks.Pair.{Pair}
 use Rattle.merge.specs.declared.stacks.Class.{Class}
 use Rattle.merge.specs.declared.stacks.Class.TheVariants.{Whiteout, Other, Plain, Opaque}
-use Rattle.merge.specs.declared.stacks.Seen.{Seen}
-use Rattle.merge.specs.declared.stacks.Seen.TheVariants.{Nothing, There}
 use Rattle.merge.specs.Nodes.{no_pair, no_node, node_name, key_of, count_of, nodes_of, node_at}
 use Rattle.merge.specs.State.{find_number}
 use Rattle.merge.specs.Methods.{with_stack, deeper, pushed, topped}
@@ -76,31 +73,31 @@ true_false e = absurd (let z : ◌≡◌ {A = ℕ} 0 1 = cc in omega arith)
 
 -- ---- what a name has in a table
 
-seen_nothing : (t : List ℕ) (d : ℕ) (x : Name) → seen_of t d x ≡ Nothing → named (entries_of t) d x ≡ 0
+seen_nothing : (t : List ℕ) (d : ℕ) (x : Name) → seen_of t d x ≡ None → named (entries_of t) d x ≡ 0
 unfolding seen_of
 seen_nothing t d x = go (eqb (named (entries_of t) d x) 0) refl
   where
-    go : (b : Bool) → eqb (named (entries_of t) d x) 0 ≡ b → cond b Nothing (There (class_at t d (named (entries_of t) d x)) (named (entries_of t) d x)) ≡ Nothing → named (entries_of t) d x ≡ 0
+    go : (b : Bool) → eqb (named (entries_of t) d x) 0 ≡ b → cond {A = Option (Class × ℕ)} b None (Some (class_at t d (named (entries_of t) d x), named (entries_of t) d x)) ≡ None → named (entries_of t) d x ≡ 0
     go true e h = eqb-true (named (entries_of t) d x) 0 e
     go false e h = absurd (let z : ◌≡◌ {A = ℕ} 0 1 = cc in omega arith)
 
 module _ (t : List ℕ) (v : Valid t) where
   -- "children exist"
-  named_missing : (d : ℕ) (x : Name) → named (entries_of t) d x ≡ 0 → search_of (entries_of t) d x ≡ Missing
+  named_missing : (d : ℕ) (x : Name) → named (entries_of t) d x ≡ 0 → search_of (entries_of t) d x ≡ None
   unfolding child_at
   named_missing d x = go (search_of (entries_of t) d x) refl
     where
-      go : (f : Found) → search_of (entries_of t) d x ≡ f → child_at (entries_of t) f ≡ 0 → f ≡ Missing
-      go (At j) e z =
-          let p : (entry_at (entries_of t) j).parent ≡ 0 → ⊥ = ((names_exactly d x (entry_at (entries_of t) j)).sound (first_passes (names d x) free_entry 0 (entries_of t) j (e ∙ ap At (sym (zero-add j))))).0 in
+      go : (f : Option ℕ) → search_of (entries_of t) d x ≡ f → child_at (entries_of t) f ≡ 0 → f ≡ None
+      go (Some j) e z =
+          let p : (entry_at (entries_of t) j).parent ≡ 0 → ⊥ = ((names_exactly d x (entry_at (entries_of t) j)).sound (first_passes (names d x) free_entry 0 (entries_of t) j (e ∙ ap Some (sym (zero-add j))))).0 in
           absurd ((v.ends j).child_exists p (ap (λ (i : ℕ). (record_at (records_of t) i).number) z))
-      go Missing e z = refl
+      go None e z = refl
 
   pub walked_kind : (d : ℕ) → is_walked t d ≡ true → (record_at (records_of t) d).kind ≡ 4
   walked_kind d w = eqb-true (record_at (records_of t) d).kind 4 (sym (directory_walked t 0 d v.size) ∙ w)
 
   -- a free record place is named by no entry, and holds none
-  module _ (i : ℕ) (free : free_record_place (records_of t) ≡ At i) where
+  module _ (i : ℕ) (free : free_record_place (records_of t) ≡ Some i) where
     free_number : (record_at (records_of t) i).number ≡ 0
     unfolding no_record
     free_number = eqb-true (record_at (records_of t) i).number 0 (free_record_free (records_of t) i free)
@@ -125,7 +122,7 @@ module _ (t : List ℕ) (v : Valid t) where
 
 -- ---- the table with the new directory `i`, of the permissions of `q`, under the name `x` of the directory `d`
 
-module _ (t : List ℕ) (v : Valid t) (d : ℕ) (walked : is_walked t d ≡ true) (x : Name) (well : WellFormed x) (short : length x ≤ 28) (absent : named (entries_of t) d x ≡ 0) (q : Record) (permitted : q.permissions ≤ 4095) (i : ℕ) (free : free_record_place (records_of t) ≡ At i) (j : ℕ) (room : free_entry_place (entries_of t) ≡ At j) where
+module _ (t : List ℕ) (v : Valid t) (d : ℕ) (walked : is_walked t d ≡ true) (x : Name) (well : WellFormed x) (short : length x ≤ 28) (absent : named (entries_of t) d x ≡ 0) (q : Record) (permitted : q.permissions ≤ 4095) (i : ℕ) (free : free_record_place (records_of t) ≡ Some i) (j : ℕ) (room : free_entry_place (entries_of t) ≡ Some j) where
   abbrev made : List ℕ
   made = added_entry (added_record t (directory_like q)) (entry_naming d x i)
 
@@ -136,7 +133,7 @@ module _ (t : List ℕ) (v : Valid t) (d : ℕ) (walked : is_walked t d ≡ true
       record {
         free = λ z. absurd (omega arith);
         number_is = λ _. refl;
-        kind_is = λ _. (Directory, (λ z. let o : ◌≡◌ {A = ℕ} 0 1 = cc in omega arith), refl);
+        kind_is = λ _. (Directory, refl);
         permissions_fit = permitted;
         mark_zero = refl;
         links_zero = refl;
@@ -213,7 +210,7 @@ module _ (t : List ℕ) (v : Valid t) (d : ℕ) (walked : is_walked t d ≡ true
   unfolding class_at
   made_class = ap class_of record_here ∙ (unfold class_of is_whiteout directory_like in refl)
 
-  made_seen : seen_of made d x ≡ There Plain i
+  made_seen : seen_of made d x ≡ Some (Plain, i)
   made_seen =
       let l : 1 ≤ i = free_record_from (records_of t) i free in
       sym (seen_there made d x i (sym made_named) (λ z. omega arith) Plain (sym made_class))
@@ -222,7 +219,7 @@ module _ (t : List ℕ) (v : Valid t) (d : ℕ) (walked : is_walked t d ≡ true
   made_walked : (is_walked made i ≡ true) × (ends_scan made i ≡ false)
   made_walked = plain_walked made d i made_long made_class
 
-  made_empty : (y : Name) → seen_of made i y ≡ Nothing
+  made_empty : (y : Name) → seen_of made i y ≡ None
   made_empty y = sym (seen_none made i y 0 (sym (made_change.others i y (λ e _. d_other (sym e)) ∙ free_empty t v i free y)) refl)
 
   -- one record and one entry more are used
@@ -260,16 +257,16 @@ module _ (t : List ℕ) (v : Valid t) (d : ℕ) (walked : is_walked t d ≡ true
     lower_each y (a ∷ s) h = (lower_same t made l y a h.0, lower_each y s h.1)
 
     -- the name had what the lower layers have
-    stack_was : seen_of t d x ≡ Nothing → stack_of t l (pair 0 d ∷ rest) x ≡ stack_of t l rest x
+    stack_was : seen_of t d x ≡ None → stack_of t l (pair 0 d ∷ rest) x ≡ stack_of t l rest x
     stack_was n =
         stack_of_reals t t l (pair 0 d ∷ rest) rest x
-        (reals_front t l (pair 0 d) rest (subst (λ (w : List ℕ). is_walked w d ≡ true) upper_t walked) x (subst (λ (w : List ℕ). ends_scan w d ≡ false) upper_t ends) (subst (λ (w : List ℕ). seen_of w d x ≡ Nothing) upper_t n))
+        (reals_front t l (pair 0 d) rest (subst (λ (w : List ℕ). is_walked w d ≡ true) upper_t walked) x (subst (λ (w : List ℕ). ends_scan w d ≡ false) upper_t ends) (subst (λ (w : List ℕ). seen_of w d x ≡ None) upper_t n))
 
     made_d_walked : is_walked (table_of made l 0) d ≡ true
     made_d_walked = subst (λ (w : List ℕ). is_walked w d ≡ true) upper_made (sym d_scan.0 ∙ walked)
 
-    made_d_seen : seen_of (table_of made l 0) d x ≡ There Plain i
-    made_d_seen = subst (λ (w : List ℕ). seen_of w d x ≡ There Plain i) upper_made made_seen
+    made_d_seen : seen_of (table_of made l 0) d x ≡ Some (Plain, i)
+    made_d_seen = subst (λ (w : List ℕ). seen_of w d x ≡ Some (Plain, i)) upper_made made_seen
 
     -- and has the new directory in front of that
     stack_becomes : top_walked made l (stack_of t l rest x) ≡ true → stack_of made l (pair 0 d ∷ rest) x ≡ pair 0 i ∷ stack_of t l rest x
@@ -287,12 +284,12 @@ module _ (t : List ℕ) (v : Valid t) (d : ℕ) (walked : is_walked t d ≡ true
       below_stack : stack_of made l (pair 0 i ∷ s) y ≡ stack_of t l s y
       below_stack =
           stack_front t made l y (pair 0 i) s (subst (λ (w : List ℕ). is_walked w i ≡ true) upper_made made_walked.0) (subst (λ (w : List ℕ). ends_scan w i ≡ false) upper_made made_walked.1)
-          (subst (λ (w : List ℕ). seen_of w i y ≡ Nothing) upper_made (made_empty y)) (lower_each y s h)
+          (subst (λ (w : List ℕ). seen_of w i y ≡ None) upper_made (made_empty y)) (lower_each y s h)
 
       below_mark : whiteout_of made l (pair 0 i ∷ s) y ≡ whiteout_of t l s y
       below_mark =
           whiteout_front t made l y (pair 0 i) s (subst (λ (w : List ℕ). is_walked w i ≡ true) upper_made made_walked.0) (subst (λ (w : List ℕ). ends_scan w i ≡ false) upper_made made_walked.1)
-          (subst (λ (w : List ℕ). seen_of w i y ≡ Nothing) upper_made (made_empty y)) (lower_each y s h)
+          (subst (λ (w : List ℕ). seen_of w i y ≡ None) upper_made (made_empty y)) (lower_each y s h)
 
 -- ---- how a stack begins
 
@@ -316,7 +313,7 @@ take_first (suc m) [] n = absurd (n refl)
 take_first (suc m) (a ∷ ps) n = (take m ps, refl)
 
 -- a name that an upper directory has stands on an upper record
-pub seen_starts : (t l : List ℕ) (d : ℕ) (rest : List Pair) (x : Name) (c : Class) (m : ℕ) → is_walked (table_of t l 0) d ≡ true → seen_of (table_of t l 0) d x ≡ There c m → (q : List Pair) × (stack_of t l (pair 0 d ∷ rest) x ≡ pair 0 m ∷ q)
+pub seen_starts : (t l : List ℕ) (d : ℕ) (rest : List Pair) (x : Name) (c : Class) (m : ℕ) → is_walked (table_of t l 0) d ≡ true → seen_of (table_of t l 0) d x ≡ Some (c, m) → (q : List Pair) × (stack_of t l (pair 0 d ∷ rest) x ≡ pair 0 m ∷ q)
 seen_starts t l d rest x c m w h = go (ends_scan (table_of t l 0) d) refl
   where
     go : (b : Bool) → ends_scan (table_of t l 0) d ≡ b → (q : List Pair) × (stack_of t l (pair 0 d ∷ rest) x ≡ pair 0 m ∷ q)
@@ -324,7 +321,7 @@ seen_starts t l d rest x c m w h = go (ends_scan (table_of t l 0) d) refl
     go false e = stack_starts t l (pair 0 d ∷ rest) x (record { place = pair 0 m; class = c }) (reals_of t l rest x) (reals_there t l (pair 0 d) rest w x e c m h)
 
 -- a name that an opaque directory has not stands on nothing
-opaque_none : (t l : List ℕ) (a : Pair) (rest : List Pair) (x : Name) → is_walked (table_of t l a.layer) a.number ≡ true → ends_scan (table_of t l a.layer) a.number ≡ true → seen_of (table_of t l a.layer) a.number x ≡ Nothing → stack_of t l (a ∷ rest) x ≡ []
+opaque_none : (t l : List ℕ) (a : Pair) (rest : List Pair) (x : Name) → is_walked (table_of t l a.layer) a.number ≡ true → ends_scan (table_of t l a.layer) a.number ≡ true → seen_of (table_of t l a.layer) a.number x ≡ None → stack_of t l (a ∷ rest) x ≡ []
 unfolding stack_of merge collect seen_then
 opaque_none t l a rest x w e n = rw (scanned_opaque t l a rest w e, n) refl
 
@@ -377,7 +374,7 @@ module _ (t l s : List ℕ) (g : Good t l s) (k : ℕ) (b : k < count_of s) (oth
 
   pub parent_node_lem : node_at (nodes_of s) (parent_place s k) ≡ f p
   unfolding place_of
-  parent_node_lem = let j : (j : ℕ) × (find_number (nodes_of s) p ≡ At j) = resident_found (nodes_of s) p there_p in ap (λ (w : Found). node_at (nodes_of s) (place_of (nodes_of s) w)) j.1 ∙ sym (by_found (nodes_of s) p j.0 j.1)
+  parent_node_lem = let j : (j : ℕ) × (find_number (nodes_of s) p ≡ Some j) = resident_found (nodes_of s) p there_p in ap (λ (w : Option ℕ). node_at (nodes_of s) (place_of (nodes_of s) w)) j.1 ∙ sym (by_found (nodes_of s) p j.0 j.1)
 
   -- whose number is smaller
   pub parent_earlier : (node_at (nodes_of s) (parent_place s k)).number < (node_at (nodes_of s) k).number
@@ -389,7 +386,7 @@ module _ (t l s : List ℕ) (g : Good t l s) (k : ℕ) (b : k < count_of s) (oth
   -- so a copy-up finds it among the nodes, and a directory
   pub parent_inside : parent_place s k < count_of s
   unfolding place_of
-  parent_inside = let j : (j : ℕ) × (find_number (nodes_of s) p ≡ At j) = resident_found (nodes_of s) p there_p in subst (λ (m : ℕ). parent_place s k < m) (length_nodes s) (subst (λ (w : Found). place_of (nodes_of s) w < length (nodes_of s)) (sym j.1) (found_below (nodes_of s) p j.0 j.1))
+  parent_inside = let j : (j : ℕ) × (find_number (nodes_of s) p ≡ Some j) = resident_found (nodes_of s) p there_p in subst (λ (m : ℕ). parent_place s k < m) (length_nodes s) (subst (λ (w : Option ℕ). place_of (nodes_of s) w < length (nodes_of s)) (sym j.1) (found_below (nodes_of s) p j.0 j.1))
 
   pub parent_walked : is_walked (table_of t l (top_of (node_at (nodes_of s) (parent_place s k))).layer) (top_of (node_at (nodes_of s) (parent_place s k))).number ≡ true
   unfolding top_walked
@@ -440,12 +437,12 @@ module _ (t l s : List ℕ) (g : Good t l s) (k : ℕ) (b : k < count_of s) (oth
       stack_d = node_stack ∙ ap (λ (q : List Pair). stack_of t l q x) stack_p
 
       -- which has not the name, and is not opaque
-      seen_d : seen_of (table_of t l 0) d x ≡ Nothing
+      seen_d : seen_of (table_of t l 0) d x ≡ None
       seen_d = go (seen_of (table_of t l 0) d x) refl
         where
-          go : (e : Seen) → seen_of (table_of t l 0) d x ≡ e → e ≡ Nothing
-          go Nothing h = refl
-          go (There c m) h =
+          go : (e : Option (Class × ℕ)) → seen_of (table_of t l 0) d x ≡ e → e ≡ None
+          go None h = refl
+          go (Some (c, m)) h =
               let q : (q : List Pair) × (stack_of t l (pair 0 d ∷ rest) x ≡ pair 0 m ∷ q) = seen_starts t l d rest x c m walked_zero h in
               let e : top_of n ∷ first_n.0 ≡ pair 0 m ∷ q.0 = sym first_n.1 ∙ (stack_d ∙ q.1) in
               let z : top_of n ≡ pair 0 m = cc in
@@ -458,8 +455,8 @@ module _ (t l s : List ℕ) (g : Good t l s) (k : ℕ) (b : k < count_of s) (oth
           go true h = absurd (node_some (stack_d ∙ opaque_none t l (pair 0 d) rest x walked_zero h seen_d))
           go false h = subst (λ (w : List ℕ). ends_scan w d ≡ false) zero_is h
 
-      seen_t : seen_of t d x ≡ Nothing
-      seen_t = subst (λ (w : List ℕ). seen_of w d x ≡ Nothing) zero_is seen_d
+      seen_t : seen_of t d x ≡ None
+      seen_t = subst (λ (w : List ℕ). seen_of w d x ≡ None) zero_is seen_d
 
       absent : named (entries_of t) d x ≡ 0
       absent = seen_nothing t d x seen_t
@@ -496,7 +493,7 @@ module _ (t l s : List ℕ) (g : Good t l s) (k : ℕ) (b : k < count_of s) (oth
 
       -- ---- the directory made at the free record place `i`, its entry at the free entry place `j`
 
-      module _ (i : ℕ) (free : free_record_place (records_of t) ≡ At i) (j : ℕ) (room : free_entry_place (entries_of t) ≡ At j) where
+      module _ (i : ℕ) (free : free_record_place (records_of t) ≡ Some i) (j : ℕ) (room : free_entry_place (entries_of t) ≡ Some j) where
         abbrev w : List ℕ
         w = made t v d walked_d x name_good.0 name_good.1 absent (top_record t l n) permitted i free j room
 
@@ -505,11 +502,11 @@ module _ (t l s : List ℕ) (g : Good t l s) (k : ℕ) (b : k < count_of s) (oth
 
         table_is : (made_directory l k (up t s)).table ≡ w
         unfolding made_directory add_new record_number
-        table_is = ap (λ (q : Found). added_entry (added_record t (directory_like (top_record t l n))) (entry_naming d x (record_number q))) free
+        table_is = ap (λ (q : Option ℕ). added_entry (added_record t (directory_like (top_record t l n))) (entry_naming d x (record_number q))) free
 
         state_is : (made_directory l k (up t s)).state ≡ put_bytes s k a
         unfolding made_directory record_number
-        state_is = ap (λ (q : Found). put_bytes s k (topped n (pair 0 (record_number q)))) free
+        state_is = ap (λ (q : Option ℕ). put_bytes s k (topped n (pair 0 (record_number q)))) free
 
         w_valid : Valid w
         w_valid = made_valid t v d walked_d x name_good.0 name_good.1 absent (top_record t l n) permitted i free j room near

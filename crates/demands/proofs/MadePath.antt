@@ -1,4 +1,5 @@
 -- The missing directories of a path made in the upper layer keep what holds between calls. Assumes nothing.
+use Rattle.std.specs.Prelude.{Option, Some, None}
 use mathlib.Core.Path.{◌≡◌, refl, sym, ap, ◌∙◌, subst}
 use mathlib.Core.Logic.{◌≢◌}
 use Prim.Native.Nat.{ℕ, zero, suc, ◌+◌, ◌≤◌, ◌<◌}
@@ -16,8 +17,6 @@ use Rattle.layers.specs.Items.{records_of, entries_of, record_at}
 use Rattle.layers.specs.Search.{free_entry_place, free_record_place, used_entries, used_records}
 use Rattle.layers.specs.Rules.{Reaches, at_root, Present, Valid}
 use Rattle.layers.proofs.EveryLaws.{no_true}
-use Rattle.layers.specs.declared.search.Found.{Found}
-use Rattle.layers.specs.declared.search.Found.TheVariants.{At, Missing}
 use Rattle.merge.specs.declared.node.Node.{Node}
 use Rattle.merge.specs.declared.stacks.Pair.{Pair}
 use Rattle.merge.specs.Nodes.{no_node, node_name, key_of, count_of, nodes_of, node_at}
@@ -184,9 +183,9 @@ pub place_same : (s w : List ℕ) → count_of w ≡ count_of s → (x : ℕ) �
 unfolding place_of
 place_same s w c x e = ap (place_of (nodes_of w)) e ∙ go (find_number (nodes_of s) x)
   where
-    go : (f : Found) → place_of (nodes_of w) f ≡ place_of (nodes_of s) f
-    go (At j) = refl
-    go Missing = length_nodes w ∙ (c ∙ sym (length_nodes s))
+    go : (f : Option ℕ) → place_of (nodes_of w) f ≡ place_of (nodes_of s) f
+    go (Some j) = refl
+    go None = length_nodes w ∙ (c ∙ sym (length_nodes s))
 
 -- the number of an upper directory's record is a byte
 pub upper_byte : (t l : List ℕ) → Valid t → (n : Node) → in_upper n ≡ true → Walked t l n → (top_of n).number < 256
@@ -227,10 +226,10 @@ module _ (t l s : List ℕ) (g : Good t l s) (k : ℕ) (b : k < count_of s) (oth
         ap (λ (j : ℕ). in_upper (node_at (nodes_of u.state) j)) (ap (λ (n : Node). place_numbered u.state n.parent) same ∙ place_same s u.state p.count_same (node_at (nodes_of s) k).parent (p.found_same (node_at (nodes_of s) k).parent))
         ∙ p.upper
 
-    free : (i : ℕ) × (free_record_place (records_of u.table) ≡ At i)
+    free : (i : ℕ) × (free_record_place (records_of u.table) ≡ Some i)
     free = record_place_free u.table (let e : used_records (records_of u.table) ≡ used_records (records_of t) + c = p.records in omega arith)
 
-    room : (j : ℕ) × (free_entry_place (entries_of u.table) ≡ At j)
+    room : (j : ℕ) × (free_entry_place (entries_of u.table) ≡ Some j)
     room = entry_place_free u.table (let e : used_entries (entries_of u.table) ≡ used_entries (entries_of t) + c = p.entries in omega arith)
 
     abbrev made : Up

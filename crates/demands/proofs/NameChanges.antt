@@ -1,4 +1,5 @@
 -- A change at one directory and name of a table leaves what every other directory and name has. Assumes nothing.
+use Rattle.std.specs.Prelude.{Option, Some, None}
 use mathlib.Core.Path.{◌≡◌, refl, sym, ap, ◌∙◌}
 use mathlib.Core.Logic.{◌≢◌}
 use Prim.Native.Nat.{ℕ, ◌<◌}
@@ -15,8 +16,6 @@ use Rattle.layers.specs.Items.{entries_of, records_of, entry_at, record_at, free
 use Rattle.layers.specs.Search.{name_of, names, is_free, search_of, free_entry_place}
 use Rattle.layers.specs.Change.{entry_placed, entry_added, entries_left}
 use Rattle.layers.specs.declared.items.Entry.{Entry}
-use Rattle.layers.specs.declared.search.Found.{Found}
-use Rattle.layers.specs.declared.search.Found.TheVariants.{At, Missing}
 use Rattle.layers.proofs.NameLaws.{same_true}
 use Rattle.layers.proofs.ChangeLaws.{first_passes, search_other, search_new, free_place_free, free_place_below, left_search}
 use Rattle.merge.specs.Classes.{class_of, class_at, child_at, named, seen_of}
@@ -60,13 +59,13 @@ module _ (es : List Entry) (k : ℕ) (e : Entry) (d : ℕ) (x : Name) where
   unfolding child_at
   named_other n m = rw (search_other es k e d x n m) (go (search_of es d x) refl)
     where
-      go : (f : Found) → search_of es d x ≡ f → child_at (with_entry es k e) f ≡ child_at es f
-      go (At j) q =
-          let here : names d x (entry_at es j) ≡ true = first_passes (names d x) free_entry 0 es j (q ∙ ap At (sym (zero-add j))) in
+      go : (f : Option ℕ) → search_of es d x ≡ f → child_at (with_entry es k e) f ≡ child_at es f
+      go (Some j) q =
+          let here : names d x (entry_at es j) ≡ true = first_passes (names d x) free_entry 0 es j (q ∙ ap Some (sym (zero-add j))) in
           ap (λ g. g.child) (get_or-set_other es k j e free_entry (λ z. true_false (sym here ∙ (ap (λ (i : ℕ). names d x (entry_at es i)) z ∙ m))))
-      go Missing q = refl
+      go None q = refl
 
-  pub named_new : names d x e ≡ true → k < length es → search_of es d x ≡ Missing → named (with_entry es k e) d x ≡ e.child
+  pub named_new : names d x e ≡ true → k < length es → search_of es d x ≡ None → named (with_entry es k e) d x ≡ e.child
   unfolding child_at
   named_new h l m = rw (search_new es k e d x h l m) (ap (λ g. g.child) (get_or-set_same es k e free_entry l))
 
@@ -77,11 +76,11 @@ module _ (es : List Entry) (e : Entry) (d : ℕ) (x : Name) (h : names d x e ≡
   unfolding entry_placed
   added_named_other c y n = go (free_entry_place es) refl
     where
-      go : (f : Found) → free_entry_place es ≡ f → named (entry_placed es f e) c y ≡ named es c y
-      go (At k) q = named_other es k e c y (names_elsewhere d x e h c y n) (free_names c y (entry_at es k) (free_place_free es k q))
-      go Missing q = refl
+      go : (f : Option ℕ) → free_entry_place es ≡ f → named (entry_placed es f e) c y ≡ named es c y
+      go (Some k) q = named_other es k e c y (names_elsewhere d x e h c y n) (free_names c y (entry_at es k) (free_place_free es k q))
+      go None q = refl
 
-  pub added_named : (k : ℕ) → free_entry_place es ≡ At k → search_of es d x ≡ Missing → named (entry_added es e) d x ≡ e.child
+  pub added_named : (k : ℕ) → free_entry_place es ≡ Some k → search_of es d x ≡ None → named (entry_added es e) d x ≡ e.child
   unfolding entry_placed
   added_named k q m = rw q (named_new es k e d x h (free_place_below es k q) m)
 

@@ -1,5 +1,7 @@
 -- Two lists in byte order that have the same names are one list. Assumes nothing.
 use mathlib.Core.Path.{◌≡◌, refl, sym, ap, ap₂, ◌∙◌, subst}
+use Rattle.std.specs.declared.cmp.Ordering.{Ordering}
+use Rattle.std.specs.declared.cmp.Ordering.TheVariants.{Less, Equal, Greater}
 use Prim.Native.Nat.{ℕ}
 use native.Mathlib.Omega.{arith}
 use mathlib.Core.Bool.{Bool, true, false}
@@ -7,8 +9,6 @@ use mathlib.Core.List.{List, [], ◌∷◌, map}
 use Rattle.layers.specs.Names.{Name, same_name, order_of}
 use Rattle.layers.specs.Items.{entries_of}
 use Rattle.layers.specs.Sorted.{Below, Sorted}
-use Rattle.layers.specs.declared.names.Order.{Order}
-use Rattle.layers.specs.declared.names.Order.TheVariants.{Before, Same, After}
 use Rattle.layers.proofs.NameLaws.{same_true, same_refl}
 use Rattle.layers.proofs.OrderLaws.{before_trans, after_before, same_one, same_self}
 use Rattle.merge.specs.Tables.{table_of}
@@ -33,9 +33,9 @@ sorted_map {A} f (x ∷ xs) s = (below xs s.0, sorted_map f xs s.1)
 true_false : {A : Type 0} → true ≡ false → A
 true_false e = absurd (let z : ◌≡◌ {A = ℕ} 0 1 = cc in omega arith)
 
-before_same : {A : Type 0} (x y : Name) → order_of x y ≡ Before → x ≡ y → A
+before_same : {A : Type 0} (x y : Name) → order_of x y ≡ Less → x ≡ y → A
 before_same x y h e =
-    let w : Same ≡ Before = sym (same_self x) ∙ (ap (order_of x) e ∙ h) in
+    let w : Equal ≡ Less = sym (same_self x) ∙ (ap (order_of x) e ∙ h) in
     absurd (let z : ◌≡◌ {A = ℕ} 0 1 = cc in omega arith)
 
 -- a name before all others is not among them
@@ -47,7 +47,7 @@ below_none x (y ∷ ys) b = go (same_name y x) refl (below_none x ys b.1)
     go true e ih = before_same x y b.0 (sym (same_true y x e))
     go false e ih = ih
 
-below_first : (x y : Name) (ys : List Name) → order_of x y ≡ Before → Below itself y ys → Below itself x (y ∷ ys)
+below_first : (x y : Name) (ys : List Name) → order_of x y ≡ Less → Below itself y ys → Below itself x (y ∷ ys)
 below_first x y ys h b = (h, go ys b)
   where
     go : (zs : List Name) → Below itself y zs → Below itself x zs
@@ -71,13 +71,13 @@ sorted_one [] (y ∷ ys) s r h = true_false (sym (has_first y ys) ∙ sym (h y))
 sorted_one (x ∷ xs) [] s r h = true_false (sym (has_first x xs) ∙ h x)
 sorted_one (x ∷ xs) (y ∷ ys) s r h = go (order_of x y) refl (λ c k. sorted_one xs ys s.1 r.1 k)
   where
-    go : (o : Order) → order_of x y ≡ o → (x ≡ y → ((z : Name) → has z xs ≡ has z ys) → xs ≡ ys) → x ∷ xs ≡ y ∷ ys
-    go Before e ih = true_false (sym (has_first x xs) ∙ (h x ∙ below_none x (y ∷ ys) (below_first x y ys e r.0)))
-    go Same e ih =
+    go : (o : Ordering) → order_of x y ≡ o → (x ≡ y → ((z : Name) → has z xs ≡ has z ys) → xs ≡ ys) → x ∷ xs ≡ y ∷ ys
+    go Less e ih = true_false (sym (has_first x xs) ∙ (h x ∙ below_none x (y ∷ ys) (below_first x y ys e r.0)))
+    go Equal e ih =
         let w : x ≡ y = same_one x y e in
         let b : Below itself y xs = subst (λ (n : Name). Below itself n xs) w s.0 in
         ap₂ ◌∷◌ w (ih w (rest_alike y xs ys b r.0 (subst (λ (n : Name). (z : Name) → has z (n ∷ xs) ≡ has z (y ∷ ys)) w h)))
-    go After e ih = true_false (sym (has_first y ys) ∙ (sym (h y) ∙ below_none y (x ∷ xs) (below_first y x xs (after_before x y e) s.0)))
+    go Greater e ih = true_false (sym (has_first y ys) ∙ (sym (h y) ∙ below_none y (x ∷ xs) (below_first y x xs (after_before x y e) s.0)))
 
 -- a list in order that has exactly the names with a stack is the merged names
 pub names_are : (u l : List ℕ) → ((k : ℕ) → ChildrenExist (entries_of (table_of u l k))) → (s : List Pair) (xs : List Name) → Sorted itself xs → ((x : Name) → has x xs ≡ some (stack_of u l s x)) → xs ≡ merged_names u l s

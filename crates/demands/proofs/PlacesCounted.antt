@@ -1,4 +1,5 @@
 -- How many places of a table are used: fewer than 128 leave one free, and what each change of the table does to the numbers. Assumes nothing.
+use Rattle.std.specs.Prelude.{Option, Some, None, is_some}
 use mathlib.Core.Path.{◌≡◌, refl, sym, ap, ◌∙◌}
 use mathlib.Core.Logic.{◌≢◌}
 use Prim.Native.Nat.{ℕ, zero, suc, ◌+◌, ◌≤◌, ◌<◌}
@@ -16,8 +17,6 @@ use Rattle.layers.specs.Change.{entry_naming, entry_placed, entry_added, added_e
 use Rattle.layers.specs.Rules.{Present, Used, Valid}
 use Rattle.layers.specs.declared.items.Record.{Record}
 use Rattle.layers.specs.declared.items.Entry.{Entry}
-use Rattle.layers.specs.declared.search.Found.{Found}
-use Rattle.layers.specs.declared.search.Found.TheVariants.{At, Missing}
 use Rattle.layers.proofs.Padded.{naming_name}
 use Rattle.layers.proofs.EveryLaws.{no_true}
 use Rattle.layers.proofs.ItemLaws.{length_records, length_entries}
@@ -26,33 +25,32 @@ use Rattle.layers.proofs.RuleFacts.{present_below}
 use Rattle.layers.proofs.RuleLaws.{names_record_exactly}
 use Rattle.layers.proofs.ChangeLaws.{count_set, free_place_below, free_place_free, free_record_from, free_record_below, free_record_free, records_left_named, records_left_unnamed}
 use Rattle.layers.proofs.ChangeBytes.{added_entry_lem, length_added_record, added_record_lem, dropped_entry_lem}
-use Rattle.merge.specs.State.{is_found}
 use Rattle.calls.specs.Upper.{new_record, add_new}
 use Rattle.calls.specs.Room.{freed_entries, freed_records, overfull}
 
 -- ---- fewer used than there are: one is free
 
 module _ {A : Type 0} (p : A → Bool) where
-  all_used : (s : ℕ) (xs : List A) → first_from p s xs ≡ Missing → count_if (λ x. not (p x)) xs ≡ length xs
+  all_used : (s : ℕ) (xs : List A) → first_from p s xs ≡ None → count_if (λ x. not (p x)) xs ≡ length xs
   unfolding first_from count_if one
   all_used s [] h = refl
   all_used s (x ∷ xs) h = go (p x) h (all_used (suc s) xs)
     where
-      go : (b : Bool) → cond b (At s) (first_from p (suc s) xs) ≡ Missing → (first_from p (suc s) xs ≡ Missing → count_if (λ y. not (p y)) xs ≡ length xs) → one (not b) + count_if (λ y. not (p y)) xs ≡ suc (length xs)
+      go : (b : Bool) → cond b (Some s) (first_from p (suc s) xs) ≡ None → (first_from p (suc s) xs ≡ None → count_if (λ y. not (p y)) xs ≡ length xs) → one (not b) + count_if (λ y. not (p y)) xs ≡ suc (length xs)
       go true e ih = absurd (let z : ◌≡◌ {A = ℕ} 0 1 = cc in omega arith)
       go false e ih = let q : count_if (λ y. not (p y)) xs ≡ length xs = ih e in omega arith
 
-  some_free : (s : ℕ) (xs : List A) → count_if (λ x. not (p x)) xs < length xs → (i : ℕ) × (first_from p s xs ≡ At i)
+  some_free : (s : ℕ) (xs : List A) → count_if (λ x. not (p x)) xs < length xs → (i : ℕ) × (first_from p s xs ≡ Some i)
   some_free s xs h = go (first_from p s xs) refl
     where
-      go : (f : Found) → first_from p s xs ≡ f → (i : ℕ) × (first_from p s xs ≡ At i)
-      go (At i) e = (i, e)
-      go Missing e = absurd (let q : count_if (λ x. not (p x)) xs ≡ length xs = all_used s xs e in omega arith)
+      go : (f : Option ℕ) → first_from p s xs ≡ f → (i : ℕ) × (first_from p s xs ≡ Some i)
+      go (Some i) e = (i, e)
+      go None e = absurd (let q : count_if (λ x. not (p x)) xs ≡ length xs = all_used s xs e in omega arith)
 
-pub record_place_free : (t : List ℕ) → used_records (records_of t) < 128 → (i : ℕ) × (free_record_place (records_of t) ≡ At i)
+pub record_place_free : (t : List ℕ) → used_records (records_of t) < 128 → (i : ℕ) × (free_record_place (records_of t) ≡ Some i)
 record_place_free t h = some_free no_record 1 (records_of t) (omega (arith, length_records t))
 
-pub entry_place_free : (t : List ℕ) → used_entries (entries_of t) < 128 → (k : ℕ) × (free_entry_place (entries_of t) ≡ At k)
+pub entry_place_free : (t : List ℕ) → used_entries (entries_of t) < 128 → (k : ℕ) × (free_entry_place (entries_of t) ≡ Some k)
 entry_place_free t h = some_free is_free 0 (entries_of t) (omega (arith, length_entries t))
 
 -- ---- one place of the lists changed
@@ -93,7 +91,7 @@ module _ (rs : List Record) (i : ℕ) (r : Record) (lo : 1 ≤ i) (hi : i ≤ le
 
 -- ---- a record added
 
-module _ (rs : List Record) (r : Record) (i : ℕ) (h : free_record_place rs ≡ At i) where
+module _ (rs : List Record) (r : Record) (i : ℕ) (h : free_record_place rs ≡ Some i) where
   record_added_is : record_added rs r ≡ with_record rs i (numbered i r)
   unfolding record_placed
   record_added_is = rw h refl
@@ -109,12 +107,12 @@ module _ (t : List ℕ) (r : Record) (n : length t ≡ 8192) (f : FitsHead r) (g
   pub added_record_entries : used_entries (entries_of (added_record t r)) ≡ used_entries (entries_of t)
   added_record_entries = ap (λ (es : List Entry). used_entries es) (added_record_lem t r n f g).entries
 
-  pub added_record_records : (i : ℕ) → free_record_place (records_of t) ≡ At i → used_records (records_of (added_record t r)) ≡ suc (used_records (records_of t))
+  pub added_record_records : (i : ℕ) → free_record_place (records_of t) ≡ Some i → used_records (records_of (added_record t r)) ≡ suc (used_records (records_of t))
   added_record_records i h = ap (λ (rs : List Record). used_records rs) (added_record_lem t r n f g).records ∙ records_rise (records_of t) r i h
 
 -- ---- an entry added
 
-module _ (es : List Entry) (e : Entry) (k : ℕ) (h : free_entry_place es ≡ At k) where
+module _ (es : List Entry) (e : Entry) (k : ℕ) (h : free_entry_place es ≡ Some k) where
   entry_added_is : entry_added es e ≡ with_entry es k e
   unfolding entry_placed
   entry_added_is = rw h refl
@@ -126,7 +124,7 @@ module _ (t : List ℕ) (e : Entry) (m : length e.name ≡ 28) (n : length t ≡
   pub added_entry_records : used_records (records_of (added_entry t e)) ≡ used_records (records_of t)
   added_entry_records = ap (λ (rs : List Record). used_records rs) (added_entry_lem t e m n).records
 
-  pub added_entry_entries : e.parent ≢ 0 → (k : ℕ) → free_entry_place (entries_of t) ≡ At k → used_entries (entries_of (added_entry t e)) ≡ suc (used_entries (entries_of t))
+  pub added_entry_entries : e.parent ≢ 0 → (k : ℕ) → free_entry_place (entries_of t) ≡ Some k → used_entries (entries_of (added_entry t e)) ≡ suc (used_entries (entries_of t))
   added_entry_entries u k h = ap (λ (es : List Entry). used_entries es) (added_entry_lem t e m n).entries ∙ entries_rise (entries_of t) e k h u
 
 -- ---- a new record and its entry
@@ -138,14 +136,14 @@ module _ (d : ℕ) (x : Name) (r : Record) (t : List ℕ) (n : length t ≡ 8192
   pub add_new_records : used_records (records_of t) < 128 → used_records (records_of (add_new d x r t)) ≡ suc (used_records (records_of t))
   unfolding add_new
   add_new_records l =
-      let p : (i : ℕ) × (free_record_place (records_of t) ≡ At i) = record_place_free t l in
+      let p : (i : ℕ) × (free_record_place (records_of t) ≡ Some i) = record_place_free t l in
       added_entry_records (added_record t r) (entry_naming d x (new_record t)) (naming_name d x (new_record t)) with_record_lem ∙ added_record_records t r n f g p.0 p.1
 
   pub add_new_entries : d ≢ 0 → used_entries (entries_of t) < 128 → used_entries (entries_of (add_new d x r t)) ≡ suc (used_entries (entries_of t))
   unfolding add_new entry_naming
   add_new_entries z l =
-      let p : (k : ℕ) × (free_entry_place (entries_of t) ≡ At k) = entry_place_free t l in
-      let q : free_entry_place (entries_of (added_record t r)) ≡ At p.0 = ap (λ (es : List Entry). free_entry_place es) (added_record_lem t r n f g).entries ∙ p.1 in
+      let p : (k : ℕ) × (free_entry_place (entries_of t) ≡ Some k) = entry_place_free t l in
+      let q : free_entry_place (entries_of (added_record t r)) ≡ Some p.0 = ap (λ (es : List Entry). free_entry_place es) (added_record_lem t r n f g).entries ∙ p.1 in
       added_entry_entries (added_record t r) (entry_naming d x (new_record t)) (naming_name d x (new_record t)) with_record_lem z p.0 q ∙ ap suc (added_record_entries t r n f g)
 
 -- ---- an entry taken away
@@ -180,19 +178,19 @@ module _ (t : List ℕ) (j : ℕ) (u : Used (entries_of t) j) where
       let es : entries_of (dropped_entry t j) ≡ entries_left (entries_of t) j = (dropped_entry_lem t j n).entries ∙ rw (ne_eqb (entry_at (entries_of t) j).parent 0 u) refl in
       ap (λ (fs : List Entry). used_entries fs + 1) es ∙ entry_given (entries_of t) j free_entry (used_inside (entries_of t) j u) (is_used (entry_at (entries_of t) j) u) refl
 
-  pub dropped_entry_records : Valid t → used_records (records_of (dropped_entry t j)) + freed_records t (At j) ≡ used_records (records_of t)
+  pub dropped_entry_records : Valid t → used_records (records_of (dropped_entry t j)) + freed_records t (Some j) ≡ used_records (records_of t)
   unfolding is_free freed_records
   dropped_entry_records v =
       let c : Present (records_of t) (entry_at (entries_of t) j).child = (v.ends j).child_exists u in
       let b : (1 ≤ (entry_at (entries_of t) j).child) × ((entry_at (entries_of t) j).child ≤ 128) = present_below t (entry_at (entries_of t) j).child c in
       let hi : (entry_at (entries_of t) j).child ≤ 128 = b.1 in
       let rs : records_of (dropped_entry t j) ≡ records_left (records_of t) (entries_left (entries_of t) j) (entry_at (entries_of t) j).child = (dropped_entry_lem t j v.size).records ∙ rw (ne_eqb (entry_at (entries_of t) j).parent 0 u) refl in
-      ap (λ (qs : List Record). used_records qs + freed_records t (At j)) rs
+      ap (λ (qs : List Record). used_records qs + freed_records t (Some j)) rs
       ∙ records_fall (entries_of t) j (entry_at (entries_of t) j).child u refl (records_of t) b.0 (omega (arith, length_records t)) c
 
 -- ---- "28 is decided on the numbers after the whole call"
 
-pub not_overfull : (t : List ℕ) (e : Found) (m n : ℕ) → overfull t e m n ≡ false → (used_records (records_of t) + m ≤ 128 + freed_records t e) × (used_entries (entries_of t) + n ≤ 128 + freed_entries e)
+pub not_overfull : (t : List ℕ) (e : Option ℕ) (m n : ℕ) → overfull t e m n ≡ false → (used_records (records_of t) + m ≤ 128 + freed_records t e) × (used_entries (entries_of t) + n ≤ 128 + freed_entries e)
 unfolding overfull
 not_overfull t e m n h = go (ltb (128 + freed_records t e) (used_records (records_of t) + m)) refl h
   where
@@ -202,8 +200,8 @@ not_overfull t e m n h = go (ltb (128 + freed_records t e) (used_records (record
     go false q k = (ltb-false (128 + freed_records t e) (used_records (records_of t) + m) q, ltb-false (128 + freed_entries e) (used_entries (entries_of t) + n) k)
 
 -- where nothing is freed
-pub not_overfull_missing : (t : List ℕ) (m n : ℕ) → overfull t Missing m n ≡ false → (used_records (records_of t) + m ≤ 128) × (used_entries (entries_of t) + n ≤ 128)
-unfolding freed_records one is_found
+pub not_overfull_missing : (t : List ℕ) (m n : ℕ) → overfull t None m n ≡ false → (used_records (records_of t) + m ≤ 128) × (used_entries (entries_of t) + n ≤ 128)
+unfolding freed_records one
 not_overfull_missing t m n h =
-    let p : (used_records (records_of t) + m ≤ 128 + 0) × (used_entries (entries_of t) + n ≤ 128 + 0) = not_overfull t Missing m n h in
+    let p : (used_records (records_of t) + m ≤ 128 + 0) × (used_entries (entries_of t) + n ≤ 128 + 0) = not_overfull t None m n h in
     p

@@ -1,4 +1,5 @@
 -- An accepted import leaves what holds between calls, and every call that changes no layer keeps it. Assumes nothing.
+use Rattle.std.specs.Prelude.{Ok, Err}
 use mathlib.Core.Path.{◌≡◌, refl, sym, ◌∙◌, subst}
 use Prim.Native.Nat.{ℕ, zero, suc, ◌<◌}
 use native.Mathlib.Omega.{arith}
@@ -21,7 +22,6 @@ use Rattle.calls.specs.Lookup.{lookup_before, name_tests, place_named, counted_s
 use Rattle.calls.specs.Count.{count_before, count_spec}
 use Rattle.calls.specs.Listing.{listed, list_loaded, list_spec}
 use Rattle.calls.specs.Forget.{forget_call}
-use Rattle.calls.specs.declared.refusal.Answer.TheVariants.{Fine, Refused}
 use Rattle.calls.specs.declared.refusal.Refusal.TheVariants.{Einval}
 use Rattle.calls.proofs.TestLaws.{passed_append, fine_passed}
 use Rattle.merge.specs.Forget.{forget_spec}
@@ -60,9 +60,9 @@ no_table : (u l : List ℕ) (k : ℕ) → 3 < k → length (table_of u l k) ≡ 
 unfolding table_of
 no_table u l k h e = absurd (let z : ◌≡◌ {A = ℕ} 0 8192 = sym (rw (ne_eqb k 0 (λ q. absurd (omega arith)), lt-ltb 3 k h) refl) ∙ e in omega arith)
 
-module _ (u l s : List ℕ) (v : ℕ) (h : (import_spec u l s).answer ≡ Fine v) where
+module _ (u l s : List ℕ) (v : ℕ) (h : (import_spec u l s).answer ≡ Ok v) where
   all_passed : passed (import_tests u l s ++ root_tests u l) ≡ true
-  all_passed = fine_passed (import_tests u l s ++ root_tests u l) (Fine 0) v h
+  all_passed = fine_passed (import_tests u l s ++ root_tests u l) (Ok 0) v h
 
   imported : (import_spec u l s).state ≡ load_bytes u l (rooted u l blank) 0
   imported = rw all_passed refl
@@ -128,7 +128,7 @@ module _ (u l s : List ℕ) (g : Good u l s) (v : SoundLayers u l) where
   unfolding list_spec list_loaded
   list_good x o size t = go (lengths_test s u l) (eqb size 0)
     where
-      go : (a b : Bool) → Good u l (cond a (cond b (listed (Fine 0) s t) (list_loaded u l s x o size t)) (listed (Refused Einval) s t)).state
+      go : (a b : Bool) → Good u l (cond a (cond b (listed (Ok 0) s t) (list_loaded u l s x o size t)) (listed (Err Einval) s t)).state
       go true true = g
       go true false = either_good (parent_tests u l s x) (load_tests u l s (place_numbered s x) ++ []) x (loaded_state u l s x) (loaded_good x)
       go false b = g

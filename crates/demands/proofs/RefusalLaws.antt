@@ -1,4 +1,5 @@
 -- A refusal is given exactly when its rule says, and changes nothing but what a load did before it: of every call. Assumes nothing.
+use Rattle.std.specs.Prelude.{Result, Ok, Err}
 use mathlib.Core.Path.{◌≡◌, refl, sym, ◌∙◌, subst}
 use mathlib.Core.Logic.{◌⊎◌, inl, inr}
 use mathlib.Core.Bool.{Bool, true, false, not, cond}
@@ -23,38 +24,36 @@ use Rattle.calls.specs.Link.{link_before, link_behind}
 use Rattle.calls.specs.CopyUp.{copy_up_before, copy_up_tests}
 use Rattle.calls.specs.declared.refusal.Refusal.{Refusal}
 use Rattle.calls.specs.declared.refusal.Refusal.TheVariants.{Einval}
-use Rattle.calls.specs.declared.refusal.Answer.{Answer}
-use Rattle.calls.specs.declared.refusal.Answer.TheVariants.{Fine, Refused}
 use Rattle.calls.proofs.TestLaws.{passed_append, refused_failed}
 use Rattle.demands.specs.Refusals.{Refuses, here, behind, Given, Loads, Writes, around_load, list_tests, DemandOne}
 
 -- ---- given exactly when its rule says
 
-given_sound : (ts : List Test) (v : ℕ) (r : Refusal) → after_tests ts (Fine v) ≡ Refused r → Refuses ts r
+given_sound : (ts : List Test) (v : ℕ) (r : Refusal) → after_tests ts (Ok v) ≡ Err r → Refuses ts r
 unfolding after_tests
 given_sound [] v r e = absurd (let z : ◌≡◌ {A = ℕ} 0 1 = cc in omega arith)
 given_sound (t ∷ ts) v r e = go t.fails refl e (given_sound ts v r)
   where
-    go : (b : Bool) → t.fails ≡ b → cond b (Refused t.gives) (after_tests ts (Fine v)) ≡ Refused r → (after_tests ts (Fine v) ≡ Refused r → Refuses ts r) → Refuses (t ∷ ts) r
+    go : (b : Bool) → t.fails ≡ b → cond b (Err t.gives) (after_tests ts (Ok v)) ≡ Err r → (after_tests ts (Ok v) ≡ Err r → Refuses ts r) → Refuses (t ∷ ts) r
     go true f e ih = let z : t.gives ≡ r = cc in subst (λ (q : Refusal). Refuses (t ∷ ts) q) z (here f)
     go false f e ih = behind f (ih e)
 
-given_whole : (ts : List Test) (v : ℕ) (r : Refusal) → Refuses ts r → after_tests ts (Fine v) ≡ Refused r
+given_whole : (ts : List Test) (v : ℕ) (r : Refusal) → Refuses ts r → after_tests ts (Ok v) ≡ Err r
 unfolding after_tests
 given_whole [] v r h = elim h [ ]
 given_whole (t ∷ ts) v r (here f) = rw f refl
 given_whole (t ∷ ts) v r (behind f h) = rw f (given_whole ts v r h)
 
-given_after : (ts : List Test) (v : ℕ) → Given ts (after_tests ts (Fine v))
+given_after : (ts : List Test) (v : ℕ) → Given ts (after_tests ts (Ok v))
 given_after ts v = record { sound = given_sound ts v; whole = given_whole ts v }
 
 -- ---- what a refusal leaves
 
-left_after : {A : Type 0} (ts : List Test) (v : ℕ) (x y : A) (r : Refusal) → after_tests ts (Fine v) ≡ Refused r → cond (passed ts) x y ≡ y
+left_after : {A : Type 0} (ts : List Test) (v : ℕ) (x y : A) (r : Refusal) → after_tests ts (Ok v) ≡ Err r → cond (passed ts) x y ≡ y
 left_after ts v x y r e = rw (refused_failed ts v r e) refl
 
 -- of tests in two parts the first failed, or the second
-module _ (ts us : List Test) (v : ℕ) (r : Refusal) (e : after_tests (ts ++ us) (Fine v) ≡ Refused r) where
+module _ (ts us : List Test) (v : ℕ) (r : Refusal) (e : after_tests (ts ++ us) (Ok v) ≡ Err r) where
   two_parts : cond (passed ts) (passed us) false ≡ false
   two_parts = sym (passed_append ts us) ∙ refused_failed (ts ++ us) v r e
 
@@ -103,26 +102,26 @@ module _ (u l s : List ℕ) (x o size : ℕ) (t : List ℕ) where
   abbrev value : ℕ
   value = page_value (page_of (room_of size t) o (loaded_listing u l s x))
 
-  list_answer : (list_spec u l s x o size t).answer ≡ after_tests (list_tests u l s x size) (Fine (cond (eqb size 0) 0 value))
+  list_answer : (list_spec u l s x o size t).answer ≡ after_tests (list_tests u l s x size) (Ok (cond (eqb size 0) 0 value))
   unfolding list_spec list_loaded list_tests after_tests
   list_answer = go (lengths_test s u l) (eqb size 0)
     where
-      go : (a b : Bool) → (cond a (cond b (listed (Fine 0) s t) (list_loaded u l s x o size t)) (listed (Refused Einval) s t)).answer ≡ after_tests (test (not a) Einval ∷ cond b [] (before ++ (load ++ []))) (Fine (cond b 0 value))
+      go : (a b : Bool) → (cond a (cond b (listed (Ok 0) s t) (list_loaded u l s x o size t)) (listed (Err Einval) s t)).answer ≡ after_tests (test (not a) Einval ∷ cond b [] (before ++ (load ++ []))) (Ok (cond b 0 value))
       go true true = refl
       go true false = refl
       go false b = refl
 
-  list_leaves : (r : Refusal) → (list_spec u l s x o size t).answer ≡ Refused r → ((list_spec u l s x o size t).state ≡ s) ⊎ ((list_spec u l s x o size t).state ≡ loaded_state u l s x)
+  list_leaves : (r : Refusal) → (list_spec u l s x o size t).answer ≡ Err r → ((list_spec u l s x o size t).state ≡ s) ⊎ ((list_spec u l s x o size t).state ≡ loaded_state u l s x)
   unfolding list_spec list_loaded
   list_leaves r = go (lengths_test s u l) (eqb size 0)
     where
-      go : (a b : Bool) → (cond a (cond b (listed (Fine 0) s t) (list_loaded u l s x o size t)) (listed (Refused Einval) s t)).answer ≡ Refused r
-          → ((cond a (cond b (listed (Fine 0) s t) (list_loaded u l s x o size t)) (listed (Refused Einval) s t)).state ≡ s) ⊎ ((cond a (cond b (listed (Fine 0) s t) (list_loaded u l s x o size t)) (listed (Refused Einval) s t)).state ≡ loaded_state u l s x)
+      go : (a b : Bool) → (cond a (cond b (listed (Ok 0) s t) (list_loaded u l s x o size t)) (listed (Err Einval) s t)).answer ≡ Err r
+          → ((cond a (cond b (listed (Ok 0) s t) (list_loaded u l s x o size t)) (listed (Err Einval) s t)).state ≡ s) ⊎ ((cond a (cond b (listed (Ok 0) s t) (list_loaded u l s x o size t)) (listed (Err Einval) s t)).state ≡ loaded_state u l s x)
       go true true e = inl refl
       go true false e = left_either before (load ++ []) value r e (loaded_state u l s x) (loaded_state u l s x) s
       go false b e = inl refl
 
-  unwritten : (r : Refusal) → after_tests (before ++ (load ++ [])) (Fine value) ≡ Refused r → (y : List ℕ) → cond (passed before) (cond (passed load) y t) t ≡ t
+  unwritten : (r : Refusal) → after_tests (before ++ (load ++ [])) (Ok value) ≡ Err r → (y : List ℕ) → cond (passed before) (cond (passed load) y t) t ≡ t
   unfolding passed
   unwritten r e y = go (passed before) (passed load) (rw (passed_append load []) at (two_parts before (load ++ []) value r e))
     where
@@ -131,12 +130,12 @@ module _ (u l s : List ℕ) (x o size : ℕ) (t : List ℕ) where
       go true false q = refl
       go false b q = refl
 
-  list_keeps : (r : Refusal) → (list_spec u l s x o size t).answer ≡ Refused r → (list_spec u l s x o size t).buffer ≡ t
+  list_keeps : (r : Refusal) → (list_spec u l s x o size t).answer ≡ Err r → (list_spec u l s x o size t).buffer ≡ t
   unfolding list_spec list_loaded
   list_keeps r = go (lengths_test s u l) (eqb size 0)
     where
-      go : (a b : Bool) → (cond a (cond b (listed (Fine 0) s t) (list_loaded u l s x o size t)) (listed (Refused Einval) s t)).answer ≡ Refused r
-          → (cond a (cond b (listed (Fine 0) s t) (list_loaded u l s x o size t)) (listed (Refused Einval) s t)).buffer ≡ t
+      go : (a b : Bool) → (cond a (cond b (listed (Ok 0) s t) (list_loaded u l s x o size t)) (listed (Err Einval) s t)).answer ≡ Err r
+          → (cond a (cond b (listed (Ok 0) s t) (list_loaded u l s x o size t)) (listed (Err Einval) s t)).buffer ≡ t
       go true true e = refl
       go true false e = unwritten r e (page_over (room_of size t) o (loaded_listing u l s x) t)
       go false b e = refl
@@ -151,7 +150,7 @@ demand_one =
       import_wipes = λ u l s r e. left_after (import_tests u l s ++ root_tests u l) 0 _ (wiped s) r e;
       lookup_refused = λ u l s p x. loads u l s p (lookup_before u l s p x) (name_tests (loaded_state u l s p) p x) _ _;
       count_refused = λ u l s x. loads u l s x (count_before u l s x) [] _ _;
-      list_given = λ u l s x o size t. subst (λ (a : Answer). Given (list_tests u l s x size) a) (sym (list_answer u l s x o size t)) (given_after (list_tests u l s x size) _);
+      list_given = λ u l s x o size t. subst (λ (a : Result ℕ Refusal). Given (list_tests u l s x size) a) (sym (list_answer u l s x o size t)) (given_after (list_tests u l s x size) _);
       list_kept = list_leaves;
       list_unwritten = list_keeps;
       node_given = λ s x out. given_after (node_tests s x out) 0;

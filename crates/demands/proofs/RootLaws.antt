@@ -1,4 +1,5 @@
 -- What an import leaves: the root alone before its load, and no node where it is refused. Assumes nothing.
+use Rattle.std.specs.Prelude.{Some, is_some}
 use mathlib.Core.Path.{◌≡◌, refl, ◌∙◌}
 use Prim.Native.Nat.{ℕ, zero, suc, ◌+◌, ◌≤◌}
 use native.Mathlib.Omega.{arith}
@@ -10,11 +11,10 @@ use Rattle.layers.specs.Bytes.{part, le_of, number_at, AllBytes}
 use Rattle.layers.specs.Items.{pieces}
 use Rattle.layers.specs.Order.{insert_by, spot_from}
 use Rattle.layers.specs.Search.{first_from}
-use Rattle.layers.specs.declared.spots.Spot.TheVariants.{Free}
 use Rattle.layers.proofs.Numbers.{number_in, length_laid}
 use Rattle.merge.specs.Nodes.{pair_bytes, rest_bytes, node_name, capacity, count_of, nodes_of}
 use Rattle.merge.specs.Heads.{next_of, with_head, head_bytes, full}
-use Rattle.merge.specs.State.{is_found, place_for}
+use Rattle.merge.specs.State.{place_for}
 use Rattle.merge.specs.Tables.{table_of}
 use Rattle.merge.specs.Stacks.{pair, stack_from}
 use Rattle.merge.specs.Fresh.{roots_from, root_stack}
@@ -57,7 +57,7 @@ nodes_blank = rw count_blank refl
 
 -- "A refused import leaves a state in which every number is unknown."
 pub blank_unknown : (x : ℕ) → unknown blank x ≡ true
-unfolding first_from is_found
+unfolding first_from
 blank_unknown x = rw nodes_blank refl
 
 -- ---- the root
@@ -150,7 +150,7 @@ empty_orderly =
     }
 
 module _ (u l : List ℕ) where
-  root_place : place_for (nodes_of empty) (root_node u l).parent (node_name (root_node u l)) ≡ Free 0
+  root_place : place_for (nodes_of empty) (root_node u l).parent (node_name (root_node u l)) ≡ Some 0
   unfolding spot_from
   root_place = rw nodes_empty refl
 

@@ -1,4 +1,5 @@
 -- A name's stack by what its topmost record is, and the scan of a merged stack. Assumes nothing.
+use Rattle.std.specs.Prelude.{Option, None, Some}
 use mathlib.Core.Path.{◌≡◌, refl, sym, ap, ◌∙◌}
 use Prim.Native.Nat.{ℕ, suc}
 use native.Mathlib.Omega.{arith}
@@ -17,8 +18,6 @@ use Rattle.merge.specs.Pushes.{ends_merge}
 use Rattle.merge.specs.declared.stacks.Pair.{Pair}
 use Rattle.merge.specs.declared.stacks.Class.{Class}
 use Rattle.merge.specs.declared.stacks.Class.TheVariants.{Whiteout, Other, Plain, Opaque}
-use Rattle.merge.specs.declared.stacks.Seen.{Seen}
-use Rattle.merge.specs.declared.stacks.Seen.TheVariants.{Nothing, There}
 use Rattle.merge.proofs.ClassLaws.{walked_long, walked_class, plain_walked, opaque_walked}
 use Rattle.merge.proofs.MergeLaws.{Each, DirectoryFirst, no_record_lem, plain_first, opaque_first, merge_front, merge_later, marks_directory, errno_merge}
 use Rattle.demands.proofs.AgreeLaws.{reals_there}
@@ -31,7 +30,7 @@ classes r = r.class
 
 -- ---- the topmost directory has the name
 
-module _ (u l : List ℕ) (a : Pair) (s : List Pair) (walked : is_walked (table_of u l a.layer) a.number ≡ true) (x : Name) (c : Class) (n : ℕ) (there : seen_of (table_of u l a.layer) a.number x ≡ There c n) where
+module _ (u l : List ℕ) (a : Pair) (s : List Pair) (walked : is_walked (table_of u l a.layer) a.number ≡ true) (x : Name) (c : Class) (n : ℕ) (there : seen_of (table_of u l a.layer) a.number x ≡ Some (c, n)) where
   abbrev top : Real
   top = record { place = pair a.layer n; class = c }
 
@@ -69,22 +68,22 @@ pub record Classed (u l : List ℕ) (r : Real) : Type 0 where
   pub directory : ℕ
   pub agrees : r.class ≡ class_at (table_of u l r.place.layer) directory r.place.number
 
-seen_class : (t : List ℕ) (d : ℕ) (x : Name) (c : Class) (n : ℕ) → seen_of t d x ≡ There c n → c ≡ class_at t d n
+seen_class : (t : List ℕ) (d : ℕ) (x : Name) (c : Class) (n : ℕ) → seen_of t d x ≡ Some (c, n) → c ≡ class_at t d n
 unfolding seen_of
 seen_class t d x c n = go (eqb (named (entries_of t) d x) 0)
   where
-    go : (b : Bool) → cond b Nothing (There (class_at t d (named (entries_of t) d x)) (named (entries_of t) d x)) ≡ There c n → c ≡ class_at t d n
+    go : (b : Bool) → cond {A = Option (Class × ℕ)} b None (Some (class_at t d (named (entries_of t) d x), named (entries_of t) d x)) ≡ Some (c, n) → c ≡ class_at t d n
     go true h = absurd (let z : ◌≡◌ {A = ℕ} 0 1 = cc in omega arith)
-    go false h = cc
+    go false h = let z : ◌≡◌ {A = Class × ℕ} (class_at t d (named (entries_of t) d x), named (entries_of t) d x) (c, n) = cc in sym (ap (λ (p : Class × ℕ). p.0) z) ∙ ap (class_at t d) (ap (λ (p : Class × ℕ). p.1) z)
 
 module _ (u l : List ℕ) where
   seen_classed : (x : Name) (a : Pair) (rs : List Real) → is_walked (table_of u l a.layer) a.number ≡ true → Each (Classed u l) rs → Each (Classed u l) (seen_then a.layer (seen_of (table_of u l a.layer) a.number x) rs)
   unfolding seen_then
   seen_classed x a rs w h = go (seen_of (table_of u l a.layer) a.number x) refl
     where
-      go : (f : Seen) → seen_of (table_of u l a.layer) a.number x ≡ f → Each (Classed u l) (seen_then a.layer f rs)
-      go Nothing e = h
-      go (There c n) e = (record { long = walked_long (table_of u l a.layer) a.number true (sym w) refl; directory = a.number; agrees = seen_class (table_of u l a.layer) a.number x c n e }, h)
+      go : (f : Option (Class × ℕ)) → seen_of (table_of u l a.layer) a.number x ≡ f → Each (Classed u l) (seen_then a.layer f rs)
+      go None e = h
+      go (Some (c, n)) e = (record { long = walked_long (table_of u l a.layer) a.number true (sym w) refl; directory = a.number; agrees = seen_class (table_of u l a.layer) a.number x c n e }, h)
 
   pub reals_classed : (s : List Pair) (x : Name) → Each (Classed u l) (reals_of u l s x)
   unfolding scanned collect

@@ -1,4 +1,5 @@
 -- A record and an entry added to a table of bytes leave a table of bytes. Assumes nothing.
+use Rattle.std.specs.Prelude.{Option, Some, None}
 use mathlib.Core.Path.{◌≡◌, refl, sym, ◌∙◌, subst}
 use mathlib.Core.Logic.{◌≢◌}
 use Prim.Native.Nat.{ℕ, ◌+◌, ◌*◌, ◌-◌, ◌≤◌, ◌<◌}
@@ -17,8 +18,6 @@ use Rattle.layers.specs.Change.{entry_naming, numbered, entry_put_at, added_entr
 use Rattle.layers.specs.Rules.{Used, Valid}
 use Rattle.layers.specs.declared.items.Record.{Record}
 use Rattle.layers.specs.declared.items.Entry.{Entry}
-use Rattle.layers.specs.declared.search.Found.{Found}
-use Rattle.layers.specs.declared.search.Found.TheVariants.{At, Missing}
 use Rattle.layers.proofs.ChangeLaws.{free_record_below}
 use Rattle.layers.proofs.Determined.{bytes_take}
 use Rattle.layers.proofs.ItemLaws.{length_records, record_past, record_is, entry_past, entry_is}
@@ -96,31 +95,31 @@ module _ (t : List ℕ) (h : AllBytes t) where
   unfolding record_put_at
   added_record_bytes r f = go (free_record_place (records_of t)) refl
     where
-      go : (p : Found) → free_record_place (records_of t) ≡ p → AllBytes (record_put_at t p r)
-      go (At i) e =
+      go : (p : Option ℕ) → free_record_place (records_of t) ≡ p → AllBytes (record_put_at t p r)
+      go (Some i) e =
           let b : i < 1 + length (records_of t) = free_record_below (records_of t) i e in
           let m : length (records_of t) ≡ 128 = length_records t in
           record_put_bytes i (numbered i r) (record_bytes_lem (numbered i r) (omega arith) (record { kind_fits = f.kind_fits; opaque_fits = f.opaque_fits; mark_fits = f.mark_fits }))
-      go Missing e = h
+      go None e = h
 
   pub added_entry_bytes : (e : Entry) → AllBytes (entry_bytes e) → AllBytes (added_entry t e)
   unfolding entry_put_at
   added_entry_bytes e b = go (free_entry_place (entries_of t))
     where
-      go : (p : Found) → AllBytes (entry_put_at t p e)
-      go (At j) = entry_put_bytes j e b
-      go Missing = h
+      go : (p : Option ℕ) → AllBytes (entry_put_at t p e)
+      go (Some j) = entry_put_bytes j e b
+      go None = h
 
   new_below : new_record t < 256
   unfolding record_number
   new_below = go (free_record_place (records_of t)) refl
     where
-      go : (p : Found) → free_record_place (records_of t) ≡ p → record_number p < 256
-      go (At i) e =
+      go : (p : Option ℕ) → free_record_place (records_of t) ≡ p → record_number p < 256
+      go (Some i) e =
           let b : i < 1 + length (records_of t) = free_record_below (records_of t) i e in
           let m : length (records_of t) ≡ 128 = length_records t in
           omega arith
-      go Missing e = omega arith
+      go None e = omega arith
 
 -- a new record with its entry
 pub add_new_bytes : (t : List ℕ) → AllBytes t → (d : ℕ) → d < 256 → (x : Name) → AllBytes x → (r : Record) → FitsBytes r → AllBytes (add_new d x r t)

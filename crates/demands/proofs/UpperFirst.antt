@@ -1,4 +1,5 @@
 -- In a node's stack only the first record can be of the upper layer. Assumes nothing.
+use Rattle.std.specs.Prelude.{Option, None, Some}
 use mathlib.Core.Path.{◌≡◌, sym, ap, ◌∙◌, subst}
 use mathlib.Core.Logic.{◌≢◌}
 use Prim.Native.Nat.{ℕ, zero, suc, ◌<◌}
@@ -19,8 +20,6 @@ use Rattle.merge.specs.Load.{stack_list}
 use Rattle.merge.specs.declared.stacks.Pair.{Pair}
 use Rattle.merge.specs.declared.stacks.Class.{Class}
 use Rattle.merge.specs.declared.stacks.Class.TheVariants.{Whiteout, Other, Plain, Opaque}
-use Rattle.merge.specs.declared.stacks.Seen.{Seen}
-use Rattle.merge.specs.declared.stacks.Seen.TheVariants.{Nothing, There}
 use Rattle.merge.specs.declared.node.Node.{Node}
 use Rattle.merge.proofs.MergeLaws.{Each}
 use Rattle.demands.specs.Invariant.{Resident, Coherent}
@@ -73,18 +72,18 @@ module _ (u l : List ℕ) where
     collect_each [] h = tt
     collect_each (a ∷ s) h = go (seen_of (table_of u l a.layer) a.number x) (collect_each s h.1)
       where
-        go : (f : Seen) → Each LowerReal (collect u l x s) → Each LowerReal (seen_then a.layer f (collect u l x s))
-        go Nothing i = i
-        go (There c n) i = (h.0, i)
+        go : (f : Option (Class × ℕ)) → Each LowerReal (collect u l x s) → Each LowerReal (seen_then a.layer f (collect u l x s))
+        go None i = i
+        go (Some (c, n)) i = (h.0, i)
 
     collect_first : (s : List Pair) → UpperFirst s → FirstReal (collect u l x s)
     unfolding collect seen_then
     collect_first [] h = tt
     collect_first (a ∷ s) h = go (seen_of (table_of u l a.layer) a.number x) (collect_each s h)
       where
-        go : (f : Seen) → Each LowerReal (collect u l x s) → FirstReal (seen_then a.layer f (collect u l x s))
-        go Nothing i = each_first (collect u l x s) i
-        go (There c n) i = i
+        go : (f : Option (Class × ℕ)) → Each LowerReal (collect u l x s) → FirstReal (seen_then a.layer f (collect u l x s))
+        go None i = each_first (collect u l x s) i
+        go (Some (c, n)) i = i
 
 abbrev classes : Real → Class
 classes r = r.class

@@ -1,4 +1,5 @@
 -- A valid table stays valid where an entry is added: one that names a record which is no directory, or one that names a new record. Assumes nothing.
+use Rattle.std.specs.Prelude.{Some, None}
 use mathlib.Core.Path.{◌≡◌, refl, sym, ap, ◌∙◌, subst}
 use mathlib.Core.Logic.{◌≢◌}
 use Prim.Native.Nat.{ℕ, suc, ◌≤◌}
@@ -15,7 +16,6 @@ use Rattle.layers.specs.Change.{entry_naming, numbered, added_entry, added_recor
 use Rattle.layers.specs.Rules.{Present, Used, WellFormed, GoodRecord, GoodEntry, RootIsDirectory, GoodEnds, NamesAt, NamedOnce, GoodNaming, Reaches, at_root, up, DirectoryReachesRoot, NamesAreDistinct, Valid}
 use Rattle.layers.specs.declared.items.Record.{Record}
 use Rattle.layers.specs.declared.items.Entry.{Entry}
-use Rattle.layers.specs.declared.search.Found.TheVariants.{At, Missing}
 use Rattle.layers.proofs.Least.{least_second}
 use Rattle.layers.proofs.Padded.{naming_name, naming_named, name_past}
 use Rattle.layers.proofs.EveryLaws.{no_true}
@@ -85,7 +85,7 @@ module _ (es fs : List Entry) (k : ℕ) (e : Entry) (p : Placed es fs k e) where
   reaches_new : {n : ℕ} → Reaches es n e.parent → Reaches fs (suc n) e.child
   reaches_new {n} h = up {n = n} {r = e.child} k names_new (subst (λ (x : Entry). Reaches fs n x.parent) (sym p.here) (reaches_kept h))
 
-  module _ (m : search_of es e.parent (name_of e) ≡ Missing) where
+  module _ (m : search_of es e.parent (name_of e) ≡ None) where
     no_clash : (j : ℕ) → Used es j → (entry_at es j).parent ≡ e.parent → name_of (entry_at es j) ≡ name_of e → ⊥
     no_clash j u a b =
         no_true (sym (missing_none (names e.parent (name_of e)) free_entry 0 es m j (used_inside es j u)) ∙ (names_exactly e.parent (name_of e) (entry_at es j)).whole (u, (a, b)))
@@ -185,7 +185,7 @@ module _ (t u : List ℕ) (v : Valid t) (k : ℕ) (e : Entry) (p : Placed (entri
       old : (i : ℕ) → i ≢ e.child → DirectoryReachesRoot (entries_of u) i (record_at (records_of t) i)
       old i _ q = let s : (n : ℕ) × (n ≤ 16) × Reaches (entries_of t) n i = v.reach i q in (s.0, s.1, reaches_kept (entries_of t) (entries_of u) k e p s.2)
 
-  grown_valid : length u ≡ 8192 → GoodEntry e → search_of (entries_of t) e.parent (name_of e) ≡ Missing → Valid u
+  grown_valid : length u ≡ 8192 → GoodEntry e → search_of (entries_of t) e.parent (name_of e) ≡ None → Valid u
   grown_valid n f m =
       record {
         size = n;
@@ -225,7 +225,7 @@ free_parent : (e : Entry) → is_free e ≡ true → e.parent ≡ 0
 unfolding is_free
 free_parent e h = eqb-true e.parent 0 h
 
-added_placed : (es fs : List Entry) (k : ℕ) (e : Entry) → free_entry_place es ≡ At k → fs ≡ entry_added es e → e.parent ≢ 0 → Placed es fs k e
+added_placed : (es fs : List Entry) (k : ℕ) (e : Entry) → free_entry_place es ≡ Some k → fs ≡ entry_added es e → e.parent ≢ 0 → Placed es fs k e
 added_placed es fs k e h q n =
     record {
       here = ap (λ (l : List Entry). entry_at l k) q ∙ added_here es e k h;
@@ -250,7 +250,7 @@ same_grown t v d x c p n =
     }
 
 pub valid_linked : (t : List ℕ) → Valid t → (d c : ℕ) (x : Name) → (record_at (records_of t) d).kind ≡ 4 → Present (records_of t) c → ((record_at (records_of t) c).kind ≡ 4 → ⊥)
-    → WellFormed x → length x ≤ 28 → search_of (entries_of t) d x ≡ Missing → (k : ℕ) → free_entry_place (entries_of t) ≡ At k → Valid (added_entry t (entry_naming d x c))
+    → WellFormed x → length x ≤ 28 → search_of (entries_of t) d x ≡ None → (k : ℕ) → free_entry_place (entries_of t) ≡ Some k → Valid (added_entry t (entry_naming d x c))
 unfolding entry_naming
 valid_linked t v d c x q p n w l m k h =
     let a : AddEntry t (entry_naming d x c) (free_entry_place (entries_of t)) (added_entry t (entry_naming d x c)) = added_entry_lem t (entry_naming d x c) (naming_name d x c) v.size in
@@ -267,7 +267,7 @@ free_number : (r : Record) → no_record r ≡ true → r.number ≡ 0
 unfolding no_record
 free_number r h = eqb-true r.number 0 h
 
-module _ (t : List ℕ) (v : Valid t) (d : ℕ) (x : Name) (r : Record) (i : ℕ) (h : free_record_place (records_of t) ≡ At i) where
+module _ (t : List ℕ) (v : Valid t) (d : ℕ) (x : Name) (r : Record) (i : ℕ) (h : free_record_place (records_of t) ≡ Some i) where
   -- what was there is another record
   there_other : (q : ℕ) → Present (records_of t) q → q ≢ i
   there_other q p e = p (ap (λ (j : ℕ). (record_at (records_of t) j).number) e ∙ free_number (record_at (records_of t) i) (free_record_free (records_of t) i h))
@@ -288,8 +288,8 @@ module _ (t : List ℕ) (v : Valid t) (d : ℕ) (x : Name) (r : Record) (i : ℕ
       }
 
 pub valid_made : (t : List ℕ) → Valid t → (d : ℕ) (x : Name) (r : Record) → (record_at (records_of t) d).kind ≡ 4 → (r.kind ≡ 4 → (n : ℕ) × (n ≤ 15) × Reaches (entries_of t) n d)
-    → WellFormed x → length x ≤ 28 → search_of (entries_of t) d x ≡ Missing → (i : ℕ) → free_record_place (records_of t) ≡ At i → GoodRecord i (numbered i r) → FitsTail r
-    → (k : ℕ) → free_entry_place (entries_of t) ≡ At k → Valid (added_entry (added_record t r) (entry_naming d x i))
+    → WellFormed x → length x ≤ 28 → search_of (entries_of t) d x ≡ None → (i : ℕ) → free_record_place (records_of t) ≡ Some i → GoodRecord i (numbered i r) → FitsTail r
+    → (k : ℕ) → free_entry_place (entries_of t) ≡ Some k → Valid (added_entry (added_record t r) (entry_naming d x i))
 unfolding entry_naming
 valid_made t v d x r q near w l m i hr g f k h =
     let n : length (added_record t r) ≡ 8192 = length_added_record t r v.size ∙ v.size in

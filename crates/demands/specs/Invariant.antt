@@ -1,10 +1,8 @@
 -- What holds of a state and its layers between calls. Assumes nothing.
-use Rattle.std.specs.Prelude.{◌≡◌, ◌≢◌, true, cond, ℕ, zero, suc, ◌+◌, ◌*◌, ◌≤◌, ◌<◌, List, [], ◌∷◌, ◌++◌, eqb, length, drop, get_or}
+use Rattle.std.specs.Prelude.{◌≡◌, ◌≢◌, true, cond, ℕ, zero, suc, ◌+◌, ◌*◌, ◌≤◌, ◌<◌, List, [], ◌∷◌, ◌++◌, eqb, length, drop, get_or, Option, Some, None}
 use Rattle.layers.specs.Names.{Name}
 use Rattle.layers.specs.Search.{one}
 use Rattle.layers.specs.Sorted.{Sorted}
-use Rattle.layers.specs.declared.search.Found.{Found}
-use Rattle.layers.specs.declared.search.Found.TheVariants.{At, Missing}
 use Rattle.merge.specs.declared.node.Node.{Node}
 use Rattle.merge.specs.Tidy.{Tidy}
 use Rattle.merge.specs.Nodes.{no_node, node_name, key_of, count_of, nodes_of, node_at}
@@ -16,9 +14,9 @@ use Rattle.merge.specs.Load.{stack_list, is_loaded}
 
 -- ---- the node of each number
 
-unfoldable pub node_in : List Node → Found → Node
-node_in ns (At k) = node_at ns k
-node_in ns Missing = no_node
+unfoldable pub node_in : List Node → Option ℕ → Node
+node_in ns (Some k) = node_at ns k
+node_in ns None = no_node
 
 -- the node of number `x`; no node where there is none
 abbrev pub node_by : List Node → ℕ → Node
@@ -65,7 +63,7 @@ pub record GoodNodes (u l : List ℕ) (ns : List Node) (next : ℕ) : Type 0 whe
   -- numbers are "never given twice": one node for a number
   pub once : (x : ℕ) → length (those (is_number x) ns) ≤ 1
   -- and none for 0
-  pub none_zero : find_number ns 0 ≡ Missing
+  pub none_zero : find_number ns 0 ≡ None
   -- every node is tidy
   pub tidy : (x : ℕ) → Tidy (node_by ns x)
   -- numbers lie below the next one

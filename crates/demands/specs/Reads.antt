@@ -1,5 +1,5 @@
 -- Demand 3, of the calls that change no layer: after any sequence of them from an accepted import the state is as a merge afresh. Assumes nothing.
-use Rattle.std.specs.Prelude.{◌≡◌, true, ℕ, List, [], ◌∷◌, map, length}
+use Rattle.std.specs.Prelude.{◌≡◌, true, ℕ, List, [], ◌∷◌, map, length, Ok}
 use Rattle.layers.specs.Names.{Name}
 use Rattle.layers.specs.Search.{one}
 use Rattle.layers.specs.Rules.{Valid}
@@ -15,7 +15,6 @@ use Rattle.calls.specs.Lookup.{lookup_spec}
 use Rattle.calls.specs.Count.{count_spec}
 use Rattle.calls.specs.Listing.{list_spec}
 use Rattle.calls.specs.Forget.{forget_call}
-use Rattle.calls.specs.declared.refusal.Answer.TheVariants.{Fine}
 use Rattle.demands.specs.Invariant.{Resident, NonRoot, node_by, path_of}
 
 -- each layer's table keeps every rule
@@ -51,4 +50,4 @@ pub record AsAfresh (u l s : List ℕ) : Type 0 where
   pub names : (x : ℕ) → Resident (node_by (nodes_of s)) x → is_loaded (node_by (nodes_of s) x) ≡ true → map node_name (children_of (nodes_of s) x) ≡ merged_names u l (fresh u l (path_of (nodes_of s) x))
 
 pub record DemandThreeOfReads : Type 0 where
-  pub reads_afresh : (u l s : List ℕ) (v : ℕ) → (import_spec u l s).answer ≡ Fine v → (cs : List Read) → AsAfresh u l (after_reads u l cs (import_spec u l s).state)
+  pub reads_afresh : (u l s : List ℕ) (v : ℕ) → (import_spec u l s).answer ≡ Ok v → (cs : List Read) → AsAfresh u l (after_reads u l cs (import_spec u l s).state)

@@ -1,5 +1,5 @@
 -- Demand 3, of the calls that read, of copy-up and of creations: after any sequence of them from an accepted import the state is as a merge afresh of the layers as they then are. Assumes nothing.
-use Rattle.std.specs.Prelude.{◌≡◌, ℕ, ◌≤◌, Bool, false, List, [], ◌∷◌}
+use Rattle.std.specs.Prelude.{◌≡◌, ℕ, ◌≤◌, Bool, false, List, [], ◌∷◌, Ok}
 use Rattle.layers.specs.Bytes.{AllBytes}
 use Rattle.layers.specs.Names.{Name}
 use Rattle.layers.specs.Items.{FitsTail}
@@ -10,7 +10,6 @@ use Rattle.calls.specs.Upper.{Up, up}
 use Rattle.calls.specs.Import.{import_spec}
 use Rattle.calls.specs.CopyUp.{copy_up_spec}
 use Rattle.calls.specs.Creation.{creation_spec}
-use Rattle.calls.specs.declared.refusal.Answer.TheVariants.{Fine}
 use Rattle.demands.specs.Reads.{Read, after_read, AsAfresh}
 
 -- a call with its arguments; mknod, create and symlink are each `creates` of their record (calls/specs/Creation.antt), the first argument saying that one of theirs is malformed
@@ -49,5 +48,5 @@ after_calls l (c ∷ cs) u = after_calls l cs (after_call l c u)
 
 -- what the slices hold are bytes
 pub record DemandThreeInPart : Type 0 where
-  pub calls_afresh : (u l s : List ℕ) → AllBytes u → AllBytes l → (v : ℕ) → (import_spec u l s).answer ≡ Fine v → (cs : List Call) → AllSensible cs
+  pub calls_afresh : (u l s : List ℕ) → AllBytes u → AllBytes l → (v : ℕ) → (import_spec u l s).answer ≡ Ok v → (cs : List Call) → AllSensible cs
       → AsAfresh (after_calls l cs (up u (import_spec u l s).state)).table l (after_calls l cs (up u (import_spec u l s).state)).state

@@ -1,4 +1,5 @@
 -- The bytes that a change leaves: as many as before, and what their lists are. Assumes nothing.
+use Rattle.std.specs.Prelude.{Option, Some, None}
 use mathlib.Core.Path.{◌≡◌, refl, sym, ap, ◌∙◌}
 use Prim.Native.Nat.{ℕ, ◌+◌, ◌*◌, ◌-◌, ◌≤◌}
 use native.Mathlib.Omega.{arith}
@@ -12,8 +13,6 @@ use Rattle.layers.specs.Search.{is_free, naming, free_entry_place, free_record_p
 use Rattle.layers.specs.Change.{numbered, entry_put_at, added_entry, AddEntry, record_put_at, added_record, AddRecord, record_left, FreedRecord, dropped_entry, DropEntry}
 use Rattle.layers.specs.declared.items.Record.{Record}
 use Rattle.layers.specs.declared.items.Entry.{Entry}
-use Rattle.layers.specs.declared.search.Found.{Found}
-use Rattle.layers.specs.declared.search.Found.TheVariants.{At, Missing}
 use Rattle.layers.proofs.Runs.{length_over}
 use Rattle.layers.proofs.ItemLaws.{length_record, length_entry, record_put_none, record_put_past, record_put_in, entry_put_past, entry_put_in, put_record, put_entry, unput_record, past_record, past_entry}
 use Rattle.layers.proofs.ChangeLaws.{record_left_named, record_left_unnamed, not_added, added, record_not_added, record_added_lem, freed, not_freed, not_dropped, dropped}
@@ -64,26 +63,26 @@ module _ (t : List ℕ) (e : Entry) (m : length e.name ≡ 28) (n : length t ≡
   unfolding entry_put_at
   length_added_entry = go (free_entry_place (entries_of t))
     where
-      go : (f : Found) → length (entry_put_at t f e) ≡ length t
-      go (At k) = length_entry_put t k e m n
-      go Missing = refl
+      go : (f : Option ℕ) → length (entry_put_at t f e) ≡ length t
+      go (Some k) = length_entry_put t k e m n
+      go None = refl
 
   pub added_entry_lem : AddEntry t e (free_entry_place (entries_of t)) (added_entry t e)
   unfolding entry_put_at
   added_entry_lem = go (free_entry_place (entries_of t)) refl
     where
-      go : (f : Found) → f ≡ free_entry_place (entries_of t) → AddEntry t e f (entry_put_at t f e)
-      go (At k) p = added t (entry_put t k e) e (At k) k p refl (entry_put_lem t k e m n)
-      go Missing p = not_added t e Missing p refl
+      go : (f : Option ℕ) → f ≡ free_entry_place (entries_of t) → AddEntry t e f (entry_put_at t f e)
+      go (Some k) p = added t (entry_put t k e) e (Some k) k p refl (entry_put_lem t k e m n)
+      go None p = not_added t e None p refl
 
 module _ (t : List ℕ) (r : Record) (n : length t ≡ 8192) where
   pub length_added_record : length (added_record t r) ≡ length t
   unfolding record_put_at
   length_added_record = go (free_record_place (records_of t))
     where
-      go : (f : Found) → length (record_put_at t f r) ≡ length t
-      go (At i) = length_record_put t i (numbered i r) n
-      go Missing = refl
+      go : (f : Option ℕ) → length (record_put_at t f r) ≡ length t
+      go (Some i) = length_record_put t i (numbered i r) n
+      go None = refl
 
   pub added_record_lem : FitsHead r → FitsTail r → AddRecord t r (free_record_place (records_of t)) (added_record t r)
   unfolding record_put_at
@@ -95,9 +94,9 @@ module _ (t : List ℕ) (r : Record) (n : length t ≡ 8192) where
       holds : (i : ℕ) → FitsTail (numbered i r)
       holds i = record { device_fit = g.device_fit; size_fit = g.size_fit; content_fit = g.content_fit }
 
-      go : (f : Found) → f ≡ free_record_place (records_of t) → AddRecord t r f (record_put_at t f r)
-      go (At i) p = record_added_lem t (record_put t i (numbered i r)) r (numbered i r) (At i) i p refl refl (record_put_lem t i (numbered i r) n (fits i) (holds i))
-      go Missing p = record_not_added t r Missing p refl
+      go : (f : Option ℕ) → f ≡ free_record_place (records_of t) → AddRecord t r f (record_put_at t f r)
+      go (Some i) p = record_added_lem t (record_put t i (numbered i r)) r (numbered i r) (Some i) i p refl refl (record_put_lem t i (numbered i r) n (fits i) (holds i))
+      go None p = record_not_added t r None p refl
 
 -- ---- one item taken away
 

@@ -1,4 +1,5 @@
 -- What a change of one place does: to the search at the same and at another parent and name, to the other items, and to the counts. Assumes nothing.
+use Rattle.std.specs.Prelude.{Option, Some, None}
 use mathlib.Core.Path.{◌≡◌, refl, sym, ap, ap₂, ◌∙◌}
 use mathlib.Core.Logic.{◌≢◌}
 use Prim.Native.Nat.{ℕ, zero, suc, ◌+◌, ◌≤◌, ◌<◌}
@@ -16,58 +17,56 @@ use Rattle.layers.specs.Search.{first_from, one, count_if, names, search_of, is_
 use Rattle.layers.specs.Change.{entry_placed, entry_added, entry_put_at, AddEntry, numbered, record_placed, record_added, record_put_at, AddRecord, records_left, record_left, FreedRecord, entries_left, dropped_entry, DropEntry}
 use Rattle.layers.specs.declared.items.Record.{Record}
 use Rattle.layers.specs.declared.items.Entry.{Entry}
-use Rattle.layers.specs.declared.search.Found.{Found}
-use Rattle.layers.specs.declared.search.Found.TheVariants.{At, Missing}
 use Rattle.layers.proofs.ItemLaws.{length_records, length_entries}
 
 -- ---- the first that passes a test, after one item changed
 
 module _ {A : Type 0} (p : A → Bool) (d : A) where
   -- what is found lies in the list
-  pub first_below : (s : ℕ) (xs : List A) (k : ℕ) → first_from p s xs ≡ At k → k < s + length xs
+  pub first_below : (s : ℕ) (xs : List A) (k : ℕ) → first_from p s xs ≡ Some k → k < s + length xs
   unfolding first_from
   first_below s [] k h = absurd (let z : ◌≡◌ {A = ℕ} 0 1 = cc in omega arith)
   first_below s (x ∷ xs) k h = go (p x) h (first_below (suc s) xs k)
     where
-      go : (b : Bool) → cond b (At s) (first_from p (suc s) xs) ≡ At k → (first_from p (suc s) xs ≡ At k → k < suc s + length xs) → k < s + suc (length xs)
+      go : (b : Bool) → cond b (Some s) (first_from p (suc s) xs) ≡ Some k → (first_from p (suc s) xs ≡ Some k → k < suc s + length xs) → k < s + suc (length xs)
       go true e ih = let z : s ≡ k = cc in omega arith
       go false e ih = let z : k < suc s + length xs = ih e in omega arith
 
   -- what is found does not lie before the list
-  pub first_from_lem : (s : ℕ) (xs : List A) (k : ℕ) → first_from p s xs ≡ At k → s ≤ k
+  pub first_from_lem : (s : ℕ) (xs : List A) (k : ℕ) → first_from p s xs ≡ Some k → s ≤ k
   unfolding first_from
   first_from_lem s [] k h = absurd (let z : ◌≡◌ {A = ℕ} 0 1 = cc in omega arith)
   first_from_lem s (x ∷ xs) k h = go (p x) h (first_from_lem (suc s) xs k)
     where
-      go : (b : Bool) → cond b (At s) (first_from p (suc s) xs) ≡ At k → (first_from p (suc s) xs ≡ At k → suc s ≤ k) → s ≤ k
+      go : (b : Bool) → cond b (Some s) (first_from p (suc s) xs) ≡ Some k → (first_from p (suc s) xs ≡ Some k → suc s ≤ k) → s ≤ k
       go true e ih = let z : s ≡ k = cc in omega arith
       go false e ih = let z : suc s ≤ k = ih e in omega arith
 
   -- and it passes
-  pub first_passes : (s : ℕ) (xs : List A) (k : ℕ) → first_from p s xs ≡ At (s + k) → p (get_or xs k d) ≡ true
+  pub first_passes : (s : ℕ) (xs : List A) (k : ℕ) → first_from p s xs ≡ Some (s + k) → p (get_or xs k d) ≡ true
   unfolding first_from
   first_passes s [] k h = absurd (let z : ◌≡◌ {A = ℕ} 0 1 = cc in omega arith)
   first_passes s (x ∷ xs) k h = go (p x) refl k h (first_passes (suc s) xs)
     where
-      go : (b : Bool) → p x ≡ b → (k : ℕ) → cond b (At s) (first_from p (suc s) xs) ≡ At (s + k) → ((k : ℕ) → first_from p (suc s) xs ≡ At (suc s + k) → p (get_or xs k d) ≡ true) → p (get_or (x ∷ xs) k d) ≡ true
+      go : (b : Bool) → p x ≡ b → (k : ℕ) → cond b (Some s) (first_from p (suc s) xs) ≡ Some (s + k) → ((k : ℕ) → first_from p (suc s) xs ≡ Some (suc s + k) → p (get_or xs k d) ≡ true) → p (get_or (x ∷ xs) k d) ≡ true
       go true e zero h ih = e
       go true e (suc k) h ih = absurd (let z : s ≡ s + suc k = cc in omega arith)
       go false e zero h ih = absurd (let z : suc s ≤ s + 0 = first_from_lem (suc s) xs (s + 0) h in omega arith)
-      go false e (suc k) h ih = ih k (h ∙ ap At (add-suc s k ∙ sym (suc-add s k)))
+      go false e (suc k) h ih = ih k (h ∙ ap Some (add-suc s k ∙ sym (suc-add s k)))
 
   -- where none passes, none is found
-  pub first_missing : (s : ℕ) (xs : List A) → ((i : ℕ) → i < length xs → p (get_or xs i d) ≡ false) → first_from p s xs ≡ Missing
+  pub first_missing : (s : ℕ) (xs : List A) → ((i : ℕ) → i < length xs → p (get_or xs i d) ≡ false) → first_from p s xs ≡ None
   unfolding first_from
   first_missing s [] h = refl
   first_missing s (x ∷ xs) h = rw (h 0 (omega arith)) (first_missing (suc s) xs (λ i l. h (suc i) (omega arith)))
 
   -- where none is found, none passes
-  pub missing_none : (s : ℕ) (xs : List A) → first_from p s xs ≡ Missing → (i : ℕ) → i < length xs → p (get_or xs i d) ≡ false
+  pub missing_none : (s : ℕ) (xs : List A) → first_from p s xs ≡ None → (i : ℕ) → i < length xs → p (get_or xs i d) ≡ false
   unfolding first_from
   missing_none s [] h i l = absurd (omega arith)
   missing_none s (x ∷ xs) h i l = go (p x) refl i l h (missing_none (suc s) xs)
     where
-      go : (b : Bool) → p x ≡ b → (i : ℕ) → i < suc (length xs) → cond b (At s) (first_from p (suc s) xs) ≡ Missing → (first_from p (suc s) xs ≡ Missing → (i : ℕ) → i < length xs → p (get_or xs i d) ≡ false) → p (get_or (x ∷ xs) i d) ≡ false
+      go : (b : Bool) → p x ≡ b → (i : ℕ) → i < suc (length xs) → cond b (Some s) (first_from p (suc s) xs) ≡ None → (first_from p (suc s) xs ≡ None → (i : ℕ) → i < length xs → p (get_or xs i d) ≡ false) → p (get_or (x ∷ xs) i d) ≡ false
       go true e i l h ih = absurd (let z : ◌≡◌ {A = ℕ} 0 1 = cc in omega arith)
       go false e zero l h ih = e
       go false e (suc i) l h ih = ih h i (omega arith)
@@ -77,18 +76,18 @@ module _ {A : Type 0} (p : A → Bool) (d : A) where
   unfolding first_from
   first_set_other s [] k a n m = refl
   first_set_other s (x ∷ xs) zero a n m = rw (n, m) refl
-  first_set_other s (x ∷ xs) (suc k) a n m = ap (λ r. cond (p x) (At s) r) (first_set_other (suc s) xs k a n m)
+  first_set_other s (x ∷ xs) (suc k) a n m = ap (λ r. cond (p x) (Some s) r) (first_set_other (suc s) xs k a n m)
 
   -- a place that passes now, where none did
-  pub first_set_new : (s : ℕ) (xs : List A) (k : ℕ) (a : A) → p a ≡ true → k < length xs → first_from p s xs ≡ Missing → first_from p s (set xs k a) ≡ At (s + k)
+  pub first_set_new : (s : ℕ) (xs : List A) (k : ℕ) (a : A) → p a ≡ true → k < length xs → first_from p s xs ≡ None → first_from p s (set xs k a) ≡ Some (s + k)
   unfolding first_from
   first_set_new s [] k a h l m = absurd (omega arith)
   first_set_new s (x ∷ xs) zero a h l m = rw (h, add-zero s) refl
   first_set_new s (x ∷ xs) (suc k) a h l m = go (p x) m (first_set_new (suc s) xs k a h (omega arith))
     where
-      go : (b : Bool) → cond b (At s) (first_from p (suc s) xs) ≡ Missing → (first_from p (suc s) xs ≡ Missing → first_from p (suc s) (set xs k a) ≡ At (suc s + k)) → cond b (At s) (first_from p (suc s) (set xs k a)) ≡ At (s + suc k)
+      go : (b : Bool) → cond b (Some s) (first_from p (suc s) xs) ≡ None → (first_from p (suc s) xs ≡ None → first_from p (suc s) (set xs k a) ≡ Some (suc s + k)) → cond b (Some s) (first_from p (suc s) (set xs k a)) ≡ Some (s + suc k)
       go true e ih = absurd (let z : ◌≡◌ {A = ℕ} 0 1 = cc in omega arith)
-      go false e ih = ih e ∙ ap At (suc-add s k ∙ sym (add-suc s k))
+      go false e ih = ih e ∙ ap Some (suc-add s k ∙ sym (add-suc s k))
 
   -- how many pass, after one item changed
   pub count_set : (xs : List A) (k : ℕ) (a : A) → k < length xs → count_if p (set xs k a) + one (p (get_or xs k d)) ≡ count_if p xs + one (p a)
@@ -109,18 +108,18 @@ module _ (es : List Entry) (k : ℕ) (e : Entry) (d : ℕ) (x : Name) where
   search_other n m = first_set_other (names d x) free_entry 0 es k e n m
 
   -- a new name is found where it was put
-  pub search_new : names d x e ≡ true → k < length es → search_of es d x ≡ Missing → search_of (with_entry es k e) d x ≡ At k
-  search_new h l m = first_set_new (names d x) free_entry 0 es k e h l m ∙ ap At (zero-add k)
+  pub search_new : names d x e ≡ true → k < length es → search_of es d x ≡ None → search_of (with_entry es k e) d x ≡ Some k
+  search_new h l m = first_set_new (names d x) free_entry 0 es k e h l m ∙ ap Some (zero-add k)
 
 -- the lowest free place is free, and in the table
-module _ (es : List Entry) (k : ℕ) (h : free_entry_place es ≡ At k) where
+module _ (es : List Entry) (k : ℕ) (h : free_entry_place es ≡ Some k) where
   pub free_place_below : k < length es
   free_place_below = let l : k < 0 + length es = first_below is_free free_entry 0 es k h in omega arith
 
   pub free_place_free : is_free (entry_at es k) ≡ true
-  free_place_free = first_passes is_free free_entry 0 es k (h ∙ ap At (sym (zero-add k)))
+  free_place_free = first_passes is_free free_entry 0 es k (h ∙ ap Some (sym (zero-add k)))
 
-module _ (rs : List Record) (i : ℕ) (h : free_record_place rs ≡ At i) where
+module _ (rs : List Record) (i : ℕ) (h : free_record_place rs ≡ Some i) where
   pub free_record_from : 1 ≤ i
   free_record_from = first_from_lem no_record free_record 1 rs i h
 
@@ -130,13 +129,13 @@ module _ (rs : List Record) (i : ℕ) (h : free_record_place rs ≡ At i) where
   pub free_record_free : no_record (record_at rs i) ≡ true
   free_record_free = go i h free_record_from
     where
-      go : (i : ℕ) → free_record_place rs ≡ At i → 1 ≤ i → no_record (record_at rs i) ≡ true
+      go : (i : ℕ) → free_record_place rs ≡ Some i → 1 ≤ i → no_record (record_at rs i) ≡ true
       go zero e l = absurd (omega arith)
-      go (suc i) e l = first_passes no_record free_record 1 rs i (e ∙ ap At (sym (suc-add 0 i ∙ ap suc (zero-add i))))
+      go (suc i) e l = first_passes no_record free_record 1 rs i (e ∙ ap Some (sym (suc-add 0 i ∙ ap suc (zero-add i))))
 
 -- ---- an entry added
 
-module _ (es : List Entry) (e : Entry) (k : ℕ) (h : free_entry_place es ≡ At k) where
+module _ (es : List Entry) (e : Entry) (k : ℕ) (h : free_entry_place es ≡ Some k) where
   added_is : entry_added es e ≡ with_entry es k e
   unfolding entry_placed
   added_is = rw h refl
@@ -152,7 +151,7 @@ module _ (es : List Entry) (e : Entry) (k : ℕ) (h : free_entry_place es ≡ At
   added_search_other d x n = rw added_is (search_other es k e d x n (free_names_nothing d x (entry_at es k) (free_place_free es k h)))
 
   -- the new name is found where it was put
-  pub added_search : (d : ℕ) (x : Name) → names d x e ≡ true → search_of es d x ≡ Missing → search_of (entry_added es e) d x ≡ At k
+  pub added_search : (d : ℕ) (x : Name) → names d x e ≡ true → search_of es d x ≡ None → search_of (entry_added es e) d x ≡ Some k
   added_search d x n m = rw added_is (search_new es k e d x n (free_place_below es k h) m)
 
 -- ---- an entry taken away
@@ -177,7 +176,7 @@ module _ (es : List Entry) (j : ℕ) where
   left_search_other d x m = search_other es j free_entry d x (free_entry_names d x) m
 
   -- the name is gone, where no other entry has it
-  pub left_search : (d : ℕ) (x : Name) → ((i : ℕ) → i ≢ j → names d x (entry_at es i) ≡ false) → search_of (entries_left es j) d x ≡ Missing
+  pub left_search : (d : ℕ) (x : Name) → ((i : ℕ) → i ≢ j → names d x (entry_at es i) ≡ false) → search_of (entries_left es j) d x ≡ None
   left_search d x only = first_missing (names d x) free_entry 0 (entries_left es j) (λ i l. go i (eqb i j) refl)
     where
       go : (i : ℕ) (b : Bool) → eqb i j ≡ b → names d x (entry_at (entries_left es j) i) ≡ false
@@ -210,7 +209,7 @@ unfolding with_record
 freed_here rs zero = refl
 freed_here rs (suc c) = set_default rs c free_record
 
-module _ (rs : List Record) (r : Record) (i : ℕ) (h : free_record_place rs ≡ At i) where
+module _ (rs : List Record) (r : Record) (i : ℕ) (h : free_record_place rs ≡ Some i) where
   record_added_is : record_added rs r ≡ with_record rs i (numbered i r)
   unfolding record_placed
   record_added_is = rw h refl
@@ -249,25 +248,25 @@ module _ (t : List ℕ) (c : ℕ) where
 
 -- ---- as the code changes a table
 
-pub free_below : (t : List ℕ) (f : Found) (k : ℕ) → f ≡ free_entry_place (entries_of t) → f ≡ At k → k < 128
+pub free_below : (t : List ℕ) (f : Option ℕ) (k : ℕ) → f ≡ free_entry_place (entries_of t) → f ≡ Some k → k < 128
 free_below t f k p q = let h : k < length (entries_of t) = free_place_below (entries_of t) k (sym p ∙ q) in omega (arith, length_entries t)
 
-pub record_below : (t : List ℕ) (f : Found) (i : ℕ) → f ≡ free_record_place (records_of t) → f ≡ At i → i < 256
+pub record_below : (t : List ℕ) (f : Option ℕ) (i : ℕ) → f ≡ free_record_place (records_of t) → f ≡ Some i → i < 256
 record_below t f i p q = let h : i < 1 + length (records_of t) = free_record_below (records_of t) i (sym p ∙ q) in omega (arith, length_records t)
 
-pub not_added : (t : List ℕ) (e : Entry) (f : Found) → f ≡ free_entry_place (entries_of t) → f ≡ Missing → AddEntry t e Missing t
+pub not_added : (t : List ℕ) (e : Entry) (f : Option ℕ) → f ≡ free_entry_place (entries_of t) → f ≡ None → AddEntry t e None t
 unfolding entry_placed entry_put_at
 not_added t e f p q = record { bytes = rw (← p, q) refl; place = sym q ∙ p; entries = rw (← p, q) refl; records = refl }
 
-pub added : (t u : List ℕ) (e : Entry) (f : Found) (k : ℕ) → f ≡ free_entry_place (entries_of t) → f ≡ At k → PutEntry t k e u → AddEntry t e (At k) u
+pub added : (t u : List ℕ) (e : Entry) (f : Option ℕ) (k : ℕ) → f ≡ free_entry_place (entries_of t) → f ≡ Some k → PutEntry t k e u → AddEntry t e (Some k) u
 unfolding entry_placed entry_put_at
 added t u e f k p q h = record { bytes = h.bytes ∙ rw (← p, q) refl; place = sym q ∙ p; entries = h.entries ∙ rw (← p, q) refl; records = h.records }
 
-pub record_not_added : (t : List ℕ) (r : Record) (f : Found) → f ≡ free_record_place (records_of t) → f ≡ Missing → AddRecord t r Missing t
+pub record_not_added : (t : List ℕ) (r : Record) (f : Option ℕ) → f ≡ free_record_place (records_of t) → f ≡ None → AddRecord t r None t
 unfolding record_placed record_put_at
 record_not_added t r f p q = record { bytes = rw (← p, q) refl; place = sym q ∙ p; records = rw (← p, q) refl; entries = refl }
 
-pub record_added_lem : (t u : List ℕ) (r s : Record) (f : Found) (i : ℕ) → f ≡ free_record_place (records_of t) → f ≡ At i → s ≡ numbered i r → PutRecord t i s u → AddRecord t r (At i) u
+pub record_added_lem : (t u : List ℕ) (r s : Record) (f : Option ℕ) (i : ℕ) → f ≡ free_record_place (records_of t) → f ≡ Some i → s ≡ numbered i r → PutRecord t i s u → AddRecord t r (Some i) u
 unfolding record_placed record_put_at
 record_added_lem t u r s f i p q e h = record { bytes = h.bytes ∙ rw (e, ← p, q) refl; place = sym q ∙ p; records = h.records ∙ rw (e, ← p, q) refl; entries = h.entries }
 

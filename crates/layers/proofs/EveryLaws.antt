@@ -1,34 +1,17 @@
 -- A test of every place: walked place by place, what it says of each, and tests joined. Assumes nothing.
-use mathlib.Core.Path.{◌≡◌, refl, sym, ap, ◌∙◌}
+use mathlib.Core.Path.{◌≡◌, refl, sym, ◌∙◌}
 use Prim.Native.Nat.{ℕ, zero, suc, ◌+◌, ◌≤◌, ◌<◌}
 use native.Mathlib.Omega.{arith}
 use native.Mathlib.Nat.{add-zero, add-suc, suc-add, zero-add}
-use native.Mathlib.Numerals.{add-one}
 use mathlib.Core.Bool.{Bool, true, false, not, cond}
 use mathlib.Core.List.{List, [], ◌∷◌}
 use lib.Dec.{eqb, ltb, leb}
-use lib.ListN.{length, drop, get_or, get_or-eq_default}
-use lib.Seq.{drop-cons}
+use lib.ListN.{length, get_or, get_or-eq_default}
 use borrow.Author.Tests.{eq-eqb, eqb-true, eqb-false, ltb-true, ltb-false, le-leb, leb-true}
 use Rattle.layers.specs.Rules.{Exactly, every}
 
 pub no_true : {A : Type 0} → false ≡ true → A
 no_true e = absurd (let z : ◌≡◌ {A = ℕ} 0 1 = cc in omega arith)
-
--- ---- the first `m` walked: `ys` from place `s` on is what is tested, and `xs` from `i` on what is left of it at place `k`
-
-module _ {A : Type 0} (p : ℕ → A → Bool) (xs ys : List A) (d : A) (s k i m n : ℕ) where
-  every_step : i < length xs → every p k (drop i xs) ≡ cond (p k (get_or xs i d)) (every p (suc k) (drop (suc i) xs)) false
-  unfolding every
-  every_step h = rw (drop-cons xs i d h) refl
-
-  pub every_next : (r : Bool) → r ≡ p k (get_or xs i d) → r ≡ true → length xs ≡ n → m ≤ n → i < m → every p k (drop i xs) ≡ every p s ys → every p (k + 1) (drop (i + 1) xs) ≡ every p s ys
-  every_next r q f l b h e = rw (add-one k, add-one i) (sym (every_step (omega arith) ∙ ap (λ t. cond t (every p (suc k) (drop (suc i) xs)) false) (sym q ∙ f)) ∙ e)
-
-  pub every_not : (r : Bool) → r ≡ p k (get_or xs i d) → r ≡ false → length xs ≡ n → m ≤ n → i < m → every p k (drop i xs) ≡ every p s ys → false ≡ every p s ys
-  every_not r q f l b h e = sym (every_step (omega arith) ∙ ap (λ t. cond t (every p (suc k) (drop (suc i) xs)) false) (sym q ∙ f)) ∙ e
-
-pub ruleset every_walk = (every_next, every_not)
 
 -- ---- what it says of each place
 

@@ -31,11 +31,11 @@ unfolding record_of le_of
 zeros_record = refl
 
 module _ (t : List ℕ) (n : ℕ) (l : length t ≡ 8192) where
-  pub entries_free : all_zero (drop (32 * n) (take (length t - 4096) (drop 4096 t))) ≡ true → FreeFrom free_entry (entries_of t) n
+  pub entries_free : all_zero (drop (32 * n) (take 4096 (drop 4096 t))) ≡ true → FreeFrom free_entry (entries_of t) n
   entries_free h = record { rest = λ j b. go j b (ltb j 128) refl }
     where
       whole : all_zero (drop (32 * n) (drop 4096 t)) ≡ true
-      whole = ap (λ (b : List ℕ). all_zero (drop (32 * n) b)) (sym (take_all (length t - 4096) (drop 4096 t) (simp length-drop (omega arith)))) ∙ h
+      whole = ap (λ (b : List ℕ). all_zero (drop (32 * n) b)) (sym (take_all 4096 (drop 4096 t) (simp length-drop (omega arith)))) ∙ h
 
       go : (j : ℕ) → n ≤ j → (q : Bool) → ltb j 128 ≡ q → entry_at (entries_of t) j ≡ free_entry
       go j b true q =
@@ -76,8 +76,8 @@ unfolding record_holds record_test free_record_test count_test once_named_test n
 free_record_passes es i = refl
 
 module _ (rs : List Record) (es : List Entry) (m k : ℕ) where
-  pub entries_end : FreeFrom free_entry es m → m ≤ k → every (entry_holds rs) k (drop k es) ≡ every (entry_holds rs) 0 es → true ≡ every (entry_holds rs) 0 es
-  entries_end g h e = sym (every_free (entry_holds rs) free_entry (free_entry_passes rs) es k k m g h) ∙ e
+  pub entries_end : FreeFrom free_entry es m → m ≤ k → every (entry_holds rs) k (drop k es) ≡ true
+  entries_end g h = every_free (entry_holds rs) free_entry (free_entry_passes rs) es k k m g h
 
-  pub records_end : FreeFrom free_record (free_record ∷ rs) m → m ≤ k → every (record_holds es) k (drop k (free_record ∷ rs)) ≡ every (record_holds es) 1 rs → true ≡ every (record_holds es) 1 rs
-  records_end g h e = sym (every_free (record_holds es) free_record (free_record_passes es) (free_record ∷ rs) k k m g h) ∙ e
+  pub records_end : FreeFrom free_record (free_record ∷ rs) m → m ≤ k → every (record_holds es) k (drop k (free_record ∷ rs)) ≡ true
+  records_end g h = every_free (record_holds es) free_record (free_record_passes es) (free_record ∷ rs) k k m g h

@@ -14,7 +14,6 @@ pub mod EveryLaws
 pub mod CountLaws
 pub mod CountTally
 pub mod FreeTail
-pub mod FreeLaws
 pub mod RuleLaws
 pub mod ReachLaws
 pub mod RuleDistinct
@@ -32,3 +31,6 @@ pub mod PieceMoves
 pub mod OrderWords
 pub mod RuleOrder
 pub mod RuleFacts
+pub mod Ranges
+pub mod Endian
+pub mod Blank

@@ -1,16 +1,15 @@
 -- Names compared byte by byte, and what the comparisons say. Assumes nothing.
-use mathlib.Core.Path.{◌≡◌, refl, sym, ap, ap₂, ◌∙◌}
-use Prim.Native.Nat.{ℕ, suc, ◌+◌, ◌≤◌, ◌<◌}
+use mathlib.Core.Path.{◌≡◌, refl, ap, ap₂, ◌∙◌}
+use Prim.Native.Nat.{ℕ}
 use native.Mathlib.Omega.{arith}
-use native.Mathlib.Numerals.{add-one}
-use mathlib.Core.Bool.{Bool, true, false, cond}
+use mathlib.Core.Bool.{Bool, true, false, cond, ◌||◌, ◌&&◌}
 use mathlib.Core.List.{[], ◌∷◌}
-use lib.ListN.{length, drop, get_or, drop_of_length-le}
-use lib.Seq.{drop-cons}
-use lib.Dec.{eqb, ltb}
-use borrow.Author.Tests.{eq-eqb, ne_eqb, eqb-true, lt-ltb, le-ltb}
-use Rattle.layers.specs.Names.{Name, same_name, holds, order_of}
-use Rattle.layers.specs.declared.names.Order.TheVariants.{Before, Same, After}
+use lib.ListN.{length}
+use lib.Dec.{eqb}
+use borrow.Author.Tests.{eq-eqb, eqb-true}
+use Rattle.layers.specs.Names.{Name, same_name, holds, malformed_name}
+use Rattle.std.specs.List.{list_any}
+use Rattle.std.specs.Cmp.Lexicographic.{pointwise}
 
 pub same_true : (a b : Name) → same_name a b ≡ true → a ≡ b
 unfolding same_name
@@ -36,67 +35,34 @@ same_lengths a b h = go (same_name a b) refl
     go true e = absurd (h (ap length (same_true a b e)))
     go false e = refl
 
--- ---- one byte of a walk
-module _ (a b : Name) (i : ℕ) (ia : i < length a) (ib : i < length b) where
-  same_step : same_name (drop i a) (drop i b) ≡ cond (eqb (get_or a i 0) (get_or b i 0)) (same_name (drop (suc i) a) (drop (suc i) b)) false
-  unfolding same_name
-  same_step = rw (drop-cons a i 0 ia, drop-cons b i 0 ib) refl
+-- ---- in the words of std
 
-  order_step : order_of (drop i a) (drop i b) ≡ cond (ltb (get_or a i 0) (get_or b i 0)) Before (cond (ltb (get_or b i 0) (get_or a i 0)) After (order_of (drop (suc i) a) (drop (suc i) b)))
-  unfolding order_of
-  order_step = rw (drop-cons a i 0 ia, drop-cons b i 0 ib) refl
+or_if : (p q : Bool) → (p || q) ≡ cond p true q
+or_if true q = refl
+or_if false q = refl
 
-module _ (a b : Name) (i : ℕ) (ia : i < length a) where
-  pub same_next : length a ≡ length b → (get_or a i 0 ≡ get_or b i 0) → same_name (drop i a) (drop i b) ≡ same_name a b → same_name (drop (i + 1) a) (drop (i + 1) b) ≡ same_name a b
-  same_next l e h = rw (add-one i) (sym (rw (eq-eqb (get_or a i 0) (get_or b i 0) e) at (same_step a b i ia (omega arith))) ∙ h)
+pub and_if : (p q : Bool) → (p && q) ≡ cond p q false
+and_if true q = refl
+and_if false q = refl
 
-  pub same_not : length a ≡ length b → (get_or a i 0 ≡ get_or b i 0 → ⊥) → same_name (drop i a) (drop i b) ≡ same_name a b → false ≡ same_name a b
-  same_not l e h = sym (rw (ne_eqb (get_or a i 0) (get_or b i 0) e) at (same_step a b i ia (omega arith))) ∙ h
-
-pub same_end : (a b : Name) (i : ℕ) → length a ≤ i → length a ≡ length b → same_name (drop i a) (drop i b) ≡ same_name a b → true ≡ same_name a b
+pub same_as : (a b : Name) → pointwise eqb a b ≡ same_name a b
 unfolding same_name
-same_end a b i l m h = rw (drop_of_length-le a {i = i} l, drop_of_length-le b {i = i} (omega arith)) at h
+same_as [] [] = refl
+same_as [] (y ∷ ys) = refl
+same_as (x ∷ xs) [] = refl
+same_as (x ∷ xs) (y ∷ ys) = and_if (eqb x y) (pointwise eqb xs ys) ∙ ap (λ (t : Bool). cond (eqb x y) t false) (same_as xs ys)
 
-module _ (x : Name) (b i : ℕ) where
-  pub holds_next : i < length x → (get_or x i 0 ≡ b → ⊥) → holds b (drop i x) ≡ holds b x → holds b (drop (i + 1) x) ≡ holds b x
-  unfolding holds
-  holds_next l e h = rw (add-one i) (sym (rw (drop-cons x i 0 l, ne_eqb (get_or x i 0) b e) refl) ∙ h)
+pub same_bytes : (a b : Name) (r : Bool) → r ≡ pointwise eqb a b → r ≡ same_name a b
+same_bytes a b r e = e ∙ same_as a b
 
-  pub holds_here : i < length x → get_or x i 0 ≡ b → holds b (drop i x) ≡ holds b x → true ≡ holds b x
-  unfolding holds
-  holds_here l e h = sym (rw (drop-cons x i 0 l, eq-eqb (get_or x i 0) b e) refl) ∙ h
+holds_as : (b : ℕ) (x : Name) → list_any (λ y. eqb y b) x ≡ holds b x
+unfolding holds
+holds_as b [] = refl
+holds_as b (x ∷ xs) = or_if (eqb x b) (list_any (λ y. eqb y b) xs) ∙ ap (λ (t : Bool). cond (eqb x b) true t) (holds_as b xs)
 
-  pub holds_end : length x ≤ i → holds b (drop i x) ≡ holds b x → false ≡ holds b x
-  unfolding holds
-  holds_end l h = sym (rw (drop_of_length-le x {i = i} l) refl) ∙ h
-
-module _ (a b : Name) (i : ℕ) where
-  pub order_next : i < length a → i < length b → get_or b i 0 ≤ get_or a i 0 → get_or a i 0 ≤ get_or b i 0 → order_of (drop i a) (drop i b) ≡ order_of a b → order_of (drop (i + 1) a) (drop (i + 1) b) ≡ order_of a b
-  order_next ia ib p q h = rw (add-one i) (sym (rw (le-ltb (get_or a i 0) (get_or b i 0) p, le-ltb (get_or b i 0) (get_or a i 0) q) at (order_step a b i ia ib)) ∙ h)
-
-  pub order_before : i < length a → i < length b → get_or a i 0 < get_or b i 0 → order_of (drop i a) (drop i b) ≡ order_of a b → Before ≡ order_of a b
-  order_before ia ib p h = sym (rw (lt-ltb (get_or a i 0) (get_or b i 0) p) at (order_step a b i ia ib)) ∙ h
-
-  pub order_after : i < length a → i < length b → get_or b i 0 < get_or a i 0 → get_or b i 0 ≤ get_or a i 0 → order_of (drop i a) (drop i b) ≡ order_of a b → After ≡ order_of a b
-  order_after ia ib p q h = sym (rw (le-ltb (get_or a i 0) (get_or b i 0) q, lt-ltb (get_or b i 0) (get_or a i 0) p) at (order_step a b i ia ib)) ∙ h
-
-  pub order_longer : i < length a → length b ≤ i → order_of (drop i a) (drop i b) ≡ order_of a b → After ≡ order_of a b
-  unfolding order_of
-  order_longer l m h = sym (rw (drop-cons a i 0 l, drop_of_length-le b {i = i} m) refl) ∙ h
-
-  pub order_shorter : length a ≤ i → i < length b → order_of (drop i a) (drop i b) ≡ order_of a b → Before ≡ order_of a b
-  unfolding order_of
-  order_shorter l m h = sym (rw (drop-cons b i 0 m, drop_of_length-le a {i = i} l) refl) ∙ h
-
-  pub order_same : length a ≤ i → length b ≤ i → order_of (drop i a) (drop i b) ≡ order_of a b → Same ≡ order_of a b
-  unfolding order_of
-  order_same l m h = sym (rw (drop_of_length-le a {i = i} l, drop_of_length-le b {i = i} m) refl) ∙ h
-
-pub ruleset same_walk = (same_lengths, same_next, same_not, same_end)
-
-pub ruleset holds_walk = (holds_next, holds_here, holds_end)
-
-pub ruleset order_walk = (order_next, order_before, order_after, order_longer, order_shorter, order_same)
+pub malformed_as : (x : Name) → malformed_name x ≡ cond (eqb (length x) 0) true (cond (list_any (λ y. eqb y 0) x) true (cond (list_any (λ y. eqb y 47) x) true (cond (same_name x (46 ∷ [])) true (same_name x (46 ∷ 46 ∷ [])))))
+unfolding malformed_name
+malformed_as x = rw (holds_as 0 x, holds_as 47 x) refl
 
 -- a name that a callee answered
 pub same_of : (r : Bool) (a b x : Name) → r ≡ same_name a x → a ≡ b → r ≡ same_name b x

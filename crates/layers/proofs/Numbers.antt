@@ -4,8 +4,8 @@ use Prim.Native.Nat.{ℕ, zero, suc, ◌+◌, ◌*◌, ◌/◌, ◌%◌, ◌^◌
 use native.Mathlib.Omega.{arith}
 use native.Mathlib.Nat.{pow-suc, pow-succ', mul_assoc, mod-mod, mod-lt, mul-add-mod_self_right, mul-add-div_right, div-eq_of_lt, one-le-pow, div-lt_iff_lt-mul, mod-add-div, zero-add, suc-add, div-one, div-div-eq-div-mul, add-mul-mod_self_left, add-mul-div_left, mod-eq_of_lt}
 use mathlib.Core.List.{List, [], ◌∷◌, ◌++◌}
-use lib.ListN.{length, take, drop, get_or}
-use lib.Seq.{take-add, take-take, drop-drop, length-take-le}
+use lib.ListN.{length, take, drop}
+use lib.Seq.{take-add, take-take, drop-drop}
 use Rattle.layers.proofs.Runs.{length_over}
 use lib.Arith.{mod-mul}
 use Rattle.layers.specs.Bytes.{part, over, le_of, le_bytes, number_at, laid, AllBytes}
@@ -67,28 +67,6 @@ le_write (b ∷ bs) h =
 
 -- ---- as the code reads and writes them
 
--- the two bytes that a slice starts with
-pub read_bytes : (t : List ℕ) (lo hi : ℕ) → 2 ≤ length t → lo ≡ get_or t 0 0 → hi ≡ get_or t 1 0 → lo + 256 * hi ≡ le_of (take 2 t)
-unfolding le_of
-read_bytes [] lo hi h p q = absurd (omega arith)
-read_bytes (a ∷ []) lo hi h p q = absurd (omega arith)
-read_bytes (a ∷ (b ∷ r)) lo hi h p q = omega arith
-
--- a number of m + n bytes, read as its lower m and its upper n
-pub read_two : (m n : ℕ) (t : List ℕ) (a b lo hi : ℕ) → m + n ≤ length t → lo ≡ a → a ≡ le_of (take m t) → hi ≡ b → b ≡ le_of (take n (take (length t - m) (drop m t))) → lo + 256 ^ m * hi ≡ le_of (take (m + n) t)
-read_two m n t a b lo hi h p q r s =
-    rw (
-      p,
-      q,
-      r,
-      s,
-      take-take n (length t - m) (drop m t) (omega arith),
-      take-add m n t,
-      le_append (take m t) (take n (drop m t)),
-      length-take-le m t (omega arith),
-    )
-    refl
-
 module _ (w : ℕ) (t : List ℕ) (a : ℕ) where
   pub number_short : length t < w → 0 ≡ number_at w t a
   unfolding number_at
@@ -104,11 +82,6 @@ module _ (w : ℕ) (t : List ℕ) (a : ℕ) where
 
   pub number_held : (r : ℕ) → a + w ≤ length t → r ≡ le_of (take w (take (length t - a) (drop a t))) → r ≡ number_at w t a
   number_held r l e = e ∙ (ap le_of (take-take w (length t - a) (drop a t) (omega arith)) ∙ sym (number_in l))
-
-  pub number_read : (r : ℕ) → w ≤ length t → a ≤ length t - w → r ≡ le_of (take w (take (length t - a) (drop a t))) → r ≡ number_at w t a
-  number_read r l h = number_held r (omega arith)
-
-pub ruleset number_walk = (number_short, number_past, number_read)
 
 module _ (t : List ℕ) (a : ℕ) (b : List ℕ) where
   pub laid_short : length t < length b → t ≡ laid t a b

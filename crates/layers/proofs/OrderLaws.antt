@@ -1,16 +1,18 @@
 -- The order of names is one: of two names one comes first, and what comes before the earlier comes before the later. Assumes nothing.
 use mathlib.Core.Path.{◌≡◌, refl, sym, ap₂, ◌∙◌}
+use Rattle.std.specs.declared.cmp.Ordering.TheVariants.{Less, Equal, Greater}
 use mathlib.Core.Logic.{◌⊎◌, inl, inr, ⊎_elim}
 use Prim.Native.Nat.{ℕ, ◌≤◌, ◌<◌}
 use native.Mathlib.Omega.{arith}
 use mathlib.Core.Bool.{Bool, true, false}
 use mathlib.Core.List.{[], ◌∷◌}
 use lib.Dec.{ltb}
-use borrow.Author.Tests.{lt-ltb, le-ltb, ltb-true, ltb-false}
+use borrow.Author.Tests.{eq-eqb, ne_eqb, lt-ltb, le-ltb, ltb-true, ltb-false}
+use Rattle.std.specs.Ordering.{nat_cmp}
+use Rattle.std.specs.Cmp.Lexicographic.{slice_cmp}
 use Rattle.layers.specs.Names.{Name, order_of}
-use Rattle.layers.specs.declared.names.Order.TheVariants.{Before, Same, After}
 
-pub before_lt : (x y : ℕ) (xs ys : Name) → x < y → order_of (x ∷ xs) (y ∷ ys) ≡ Before
+pub before_lt : (x y : ℕ) (xs ys : Name) → x < y → order_of (x ∷ xs) (y ∷ ys) ≡ Less
 unfolding order_of
 before_lt x y xs ys h = rw (lt-ltb x y h) refl
 
@@ -18,11 +20,11 @@ pub order_eq : (x y : ℕ) (xs ys : Name) → x ≡ y → order_of (x ∷ xs) (y
 unfolding order_of
 order_eq x y xs ys h = rw (le-ltb x y (omega arith), le-ltb y x (omega arith)) refl
 
-pub after_gt : (x y : ℕ) (xs ys : Name) → y < x → order_of (x ∷ xs) (y ∷ ys) ≡ After
+pub after_gt : (x y : ℕ) (xs ys : Name) → y < x → order_of (x ∷ xs) (y ∷ ys) ≡ Greater
 unfolding order_of
 after_gt x y xs ys h = rw (le-ltb x y (omega arith), lt-ltb y x h) refl
 
-clash : {P : Type 0} → Before ≡ After → P
+clash : {P : Type 0} → Less ≡ Greater → P
 clash e = absurd (let z : ◌≡◌ {A = ℕ} 0 1 = cc in omega arith)
 
 -- less, equal or more
@@ -35,12 +37,24 @@ module _ {Q : Type 0} (x y : ℕ) where
       go false p true q = g (ltb-true y x q)
       go false p false q = let u : y ≤ x = ltb-false x y p in let v : x ≤ y = ltb-false y x q in e (omega arith)
 
+-- in the words of std
+pub order_as : (a b : Name) → slice_cmp nat_cmp a b ≡ order_of a b
+unfolding order_of
+order_as [] [] = refl
+order_as [] (y ∷ ys) = refl
+order_as (x ∷ xs) [] = refl
+order_as (x ∷ xs) (y ∷ ys) =
+    three x y
+    (λ l. rw (lt-ltb x y l) refl)
+    (λ e. rw (le-ltb x y (omega arith), le-ltb y x (omega arith), eq-eqb x y e) (order_as xs ys))
+    (λ g. rw (le-ltb x y (omega arith), lt-ltb y x g, ne_eqb x y (λ e. omega arith)) refl)
+
 -- how the first bytes decide
-pub before_cons : (x y : ℕ) (xs ys : Name) → order_of (x ∷ xs) (y ∷ ys) ≡ Before → (x < y) ⊎ ((x ≡ y) × (order_of xs ys ≡ Before))
+pub before_cons : (x y : ℕ) (xs ys : Name) → order_of (x ∷ xs) (y ∷ ys) ≡ Less → (x < y) ⊎ ((x ≡ y) × (order_of xs ys ≡ Less))
 before_cons x y xs ys h =
     three x y (λ l. inl l) (λ e. inr (e, sym (order_eq x y xs ys e) ∙ h)) (λ g. clash (sym h ∙ after_gt x y xs ys g))
 
-pub before_trans : (x y z : Name) → order_of x y ≡ Before → order_of y z ≡ Before → order_of x z ≡ Before
+pub before_trans : (x y z : Name) → order_of x y ≡ Less → order_of y z ≡ Less → order_of x z ≡ Less
 unfolding order_of
 before_trans [] [] z p q = q
 before_trans [] (y ∷ ys) [] p q = clash (sym q)
@@ -54,7 +68,7 @@ before_trans (x ∷ xs) (y ∷ ys) (z ∷ zs) p q =
     (before_cons x y xs ys p)
 
 -- the other way round
-pub after_before : (x y : Name) → order_of x y ≡ After → order_of y x ≡ Before
+pub after_before : (x y : Name) → order_of x y ≡ Greater → order_of y x ≡ Less
 unfolding order_of
 after_before [] [] p = absurd (let z : ◌≡◌ {A = ℕ} 0 1 = cc in omega arith)
 after_before [] (y ∷ ys) p = clash p
@@ -63,16 +77,16 @@ after_before (x ∷ xs) (y ∷ ys) p =
     three x y (λ l. clash (sym (before_lt x y xs ys l) ∙ p)) (λ e. order_eq y x ys xs (sym e) ∙ after_before xs ys (sym (order_eq x y xs ys e) ∙ p)) (λ g. before_lt y x ys xs g)
 
 -- names in the same place are one
-pub same_one : (x y : Name) → order_of x y ≡ Same → x ≡ y
+pub same_one : (x y : Name) → order_of x y ≡ Equal → x ≡ y
 unfolding order_of
 same_one [] [] p = refl
 same_one [] (y ∷ ys) p = absurd (let z : ◌≡◌ {A = ℕ} 0 1 = cc in omega arith)
 same_one (x ∷ xs) [] p = absurd (let z : ◌≡◌ {A = ℕ} 0 1 = cc in omega arith)
 same_one (x ∷ xs) (y ∷ ys) p =
-    three x y (λ l. absurd (let w : Before ≡ Same = sym (before_lt x y xs ys l) ∙ p in let z : ◌≡◌ {A = ℕ} 0 1 = cc in omega arith)) (λ e. ap₂ ◌∷◌ e (same_one xs ys (sym (order_eq x y xs ys e) ∙ p))) (λ g. absurd (let w : After ≡ Same = sym (after_gt x y xs ys g) ∙ p in let z : ◌≡◌ {A = ℕ} 0 1 = cc in omega arith))
+    three x y (λ l. absurd (let w : Less ≡ Equal = sym (before_lt x y xs ys l) ∙ p in let z : ◌≡◌ {A = ℕ} 0 1 = cc in omega arith)) (λ e. ap₂ ◌∷◌ e (same_one xs ys (sym (order_eq x y xs ys e) ∙ p))) (λ g. absurd (let w : Greater ≡ Equal = sym (after_gt x y xs ys g) ∙ p in let z : ◌≡◌ {A = ℕ} 0 1 = cc in omega arith))
 
 -- and back
-pub before_after : (x y : Name) → order_of x y ≡ Before → order_of y x ≡ After
+pub before_after : (x y : Name) → order_of x y ≡ Less → order_of y x ≡ Greater
 unfolding order_of
 before_after [] [] p = absurd (let z : ◌≡◌ {A = ℕ} 0 1 = cc in omega arith)
 before_after [] (y ∷ ys) p = refl
@@ -81,7 +95,7 @@ before_after (x ∷ xs) (y ∷ ys) p =
     three x y (λ l. after_gt y x ys xs l) (λ e. order_eq y x ys xs (sym e) ∙ before_after xs ys (sym (order_eq x y xs ys e) ∙ p)) (λ g. clash (sym p ∙ after_gt x y xs ys g))
 
 -- a name stands in its own place
-pub same_self : (x : Name) → order_of x x ≡ Same
+pub same_self : (x : Name) → order_of x x ≡ Equal
 unfolding order_of
 same_self [] = refl
 same_self (x ∷ xs) = order_eq x x xs xs refl ∙ same_self xs

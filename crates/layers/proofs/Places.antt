@@ -1,63 +1,63 @@
 -- The first place that passes a test, and how many do, walked place by place. Assumes nothing.
+use Rattle.std.specs.Prelude.{Some, None}
 use mathlib.Core.Path.{◌≡◌, refl, sym, ap, ◌∙◌}
-use Prim.Native.Nat.{ℕ, zero, suc, ◌+◌, ◌*◌, ◌-◌, ◌≤◌, ◌<◌}
+use Prim.Native.Nat.{ℕ, zero, suc, ◌+◌, ◌*◌, ◌-◌, ◌≤◌, ◌<◌, min}
 use native.Mathlib.Omega.{arith}
-use native.Mathlib.Nat.{add_assoc, add-zero, add-suc, suc-add}
+use native.Mathlib.Nat.{add-zero, add-suc, suc-add}
 use native.Mathlib.Numerals.{add-one}
 use Rattle.layers.proofs.Runs.{drop_take}
-use mathlib.Core.Bool.{Bool, true, false, not, cond}
-use borrow.Author.Tests.{eq-eqb, ne_eqb}
+use mathlib.Core.Bool.{Bool, true, false, cond}
+use borrow.Author.Tests.{leb-true, leb-false}
 use mathlib.Core.List.{List, [], ◌∷◌}
-use lib.Dec.{eqb}
+use lib.Dec.{leb}
 use lib.ListN.{length, take, drop, get_or, drop_of_length-le, length-take, length-drop}
 use lib.Seq.{drop-cons, get_or-take, get_or-drop, take-take, drop-drop, take_all}
 use Rattle.layers.specs.Bytes.{part}
 use Rattle.layers.specs.Items.{record_of, entry_of, records_of, entries_of, record_at, entry_at, free_record, free_entry}
-use Rattle.layers.specs.Search.{first_from, one, count_if, name_of}
+use Rattle.layers.specs.Search.{first_from, name_of}
 use Rattle.layers.specs.declared.items.Record.{Record}
 use Rattle.layers.specs.declared.items.Entry.{Entry}
-use Rattle.layers.specs.declared.search.Found.TheVariants.{At, Missing}
 use Rattle.layers.proofs.ItemLaws.{entry_is, entry_past, record_is, record_past, length_records}
 
 -- `ys` from place `s` on is what is searched, and `xs` from `i` on what is left of it at place `k`
 module _ {A : Type 0} (p : A → Bool) (xs ys : List A) (d : A) (s k i : ℕ) where
-  pub first_step_lem : i < length xs → first_from p k (drop i xs) ≡ cond (p (get_or xs i d)) (At k) (first_from p (suc k) (drop (suc i) xs))
+  pub first_step_lem : i < length xs → first_from p k (drop i xs) ≡ cond (p (get_or xs i d)) (Some k) (first_from p (suc k) (drop (suc i) xs))
   unfolding first_from
   first_step_lem h = rw (drop-cons xs i d h) refl
 
   pub first_next : (r : Bool) → r ≡ p (get_or xs i d) → r ≡ false → (n : ℕ) → length xs ≡ n → i < n → first_from p k (drop i xs) ≡ first_from p s ys → first_from p (k + 1) (drop (i + 1) xs) ≡ first_from p s ys
-  first_next r q f n l h e = rw (add-one k, add-one i) (sym (first_step_lem (omega arith) ∙ ap (λ t. cond t (At k) (first_from p (suc k) (drop (suc i) xs))) (sym q ∙ f)) ∙ e)
+  first_next r q f n l h e = rw (add-one k, add-one i) (sym (first_step_lem (omega arith) ∙ ap (λ t. cond t (Some k) (first_from p (suc k) (drop (suc i) xs))) (sym q ∙ f)) ∙ e)
 
-  pub first_here : (r : Bool) → r ≡ p (get_or xs i d) → r ≡ true → (n : ℕ) → length xs ≡ n → i < n → first_from p k (drop i xs) ≡ first_from p s ys → At k ≡ first_from p s ys
-  first_here r q f n l h e = sym (first_step_lem (omega arith) ∙ ap (λ t. cond t (At k) (first_from p (suc k) (drop (suc i) xs))) (sym q ∙ f)) ∙ e
+  pub first_here : (r : Bool) → r ≡ p (get_or xs i d) → r ≡ true → (n : ℕ) → length xs ≡ n → i < n → first_from p k (drop i xs) ≡ first_from p s ys → Some k ≡ first_from p s ys
+  first_here r q f n l h e = sym (first_step_lem (omega arith) ∙ ap (λ t. cond t (Some k) (first_from p (suc k) (drop (suc i) xs))) (sym q ∙ f)) ∙ e
 
-  pub first_none : (n : ℕ) → length xs ≡ n → n ≤ i → first_from p k (drop i xs) ≡ first_from p s ys → Missing ≡ first_from p s ys
+  pub first_none : (n : ℕ) → length xs ≡ n → n ≤ i → first_from p k (drop i xs) ≡ first_from p s ys → None ≡ first_from p s ys
   unfolding first_from
   first_none n l h e = sym (rw (drop_of_length-le xs {i = i} (omega arith)) refl) ∙ e
 
 -- where an item passes, the first that does is found, and it passes
 module _ {A : Type 0} (p : A → Bool) (d : A) where
-  pub first_found : (s : ℕ) (xs : List A) (j : ℕ) → j < length xs → p (get_or xs j d) ≡ true → (k : ℕ) × (first_from p s xs ≡ At (s + k)) × (p (get_or xs k d) ≡ true)
+  pub first_found : (s : ℕ) (xs : List A) (j : ℕ) → j < length xs → p (get_or xs j d) ≡ true → (k : ℕ) × (first_from p s xs ≡ Some (s + k)) × (p (get_or xs k d) ≡ true)
   unfolding first_from
   first_found s [] j l h = absurd (omega arith)
   first_found s (x ∷ xs) j l h = go (p x) refl j l h (first_found (suc s) xs)
     where
       go : (b : Bool) → p x ≡ b → (j : ℕ) → j < length (x ∷ xs) → p (get_or (x ∷ xs) j d) ≡ true
-          → ((j : ℕ) → j < length xs → p (get_or xs j d) ≡ true → (k : ℕ) × (first_from p (suc s) xs ≡ At (suc s + k)) × (p (get_or xs k d) ≡ true))
-          → (k : ℕ) × (cond b (At s) (first_from p (suc s) xs) ≡ At (s + k)) × (p (get_or (x ∷ xs) k d) ≡ true)
+          → ((j : ℕ) → j < length xs → p (get_or xs j d) ≡ true → (k : ℕ) × (first_from p (suc s) xs ≡ Some (suc s + k)) × (p (get_or xs k d) ≡ true))
+          → (k : ℕ) × (cond b (Some s) (first_from p (suc s) xs) ≡ Some (s + k)) × (p (get_or (x ∷ xs) k d) ≡ true)
       go true e j l h ih = (0, rw (add-zero s) refl, e)
       go false e zero l h ih = absurd (let z : ◌≡◌ {A = ℕ} 0 1 = cc in omega arith)
       go false e (suc j) l h ih =
-          let t : (k : ℕ) × (first_from p (suc s) xs ≡ At (suc s + k)) × (p (get_or xs k d) ≡ true) = ih j (omega arith) h in
-          (suc t.0, t.1 ∙ ap At (suc-add s t.0 ∙ sym (add-suc s t.0)), t.2)
+          let t : (k : ℕ) × (first_from p (suc s) xs ≡ Some (suc s + k)) × (p (get_or xs k d) ≡ true) = ih j (omega arith) h in
+          (suc t.0, t.1 ∙ ap Some (suc-add s t.0 ∙ sym (add-suc s t.0)), t.2)
 
   -- and what is found passes
-  pub found_passes : (s : ℕ) (xs : List A) (m : ℕ) → first_from p s xs ≡ At m → (k : ℕ) × (m ≡ s + k) × (p (get_or xs k d) ≡ true)
+  pub found_passes : (s : ℕ) (xs : List A) (m : ℕ) → first_from p s xs ≡ Some m → (k : ℕ) × (m ≡ s + k) × (p (get_or xs k d) ≡ true)
   unfolding first_from
   found_passes s [] m h = absurd (let z : ◌≡◌ {A = ℕ} 0 1 = cc in omega arith)
   found_passes s (x ∷ xs) m h = go (p x) refl h (found_passes (suc s) xs m)
     where
-      go : (b : Bool) → p x ≡ b → cond b (At s) (first_from p (suc s) xs) ≡ At m → (first_from p (suc s) xs ≡ At m → (k : ℕ) × (m ≡ suc s + k) × (p (get_or xs k d) ≡ true)) → (k : ℕ) × (m ≡ s + k) × (p (get_or (x ∷ xs) k d) ≡ true)
+      go : (b : Bool) → p x ≡ b → cond b (Some s) (first_from p (suc s) xs) ≡ Some m → (first_from p (suc s) xs ≡ Some m → (k : ℕ) × (m ≡ suc s + k) × (p (get_or xs k d) ≡ true)) → (k : ℕ) × (m ≡ s + k) × (p (get_or (x ∷ xs) k d) ≡ true)
       go true e h ih = let z : s ≡ m = cc in (0, omega arith, e)
       go false e h ih =
           let t : (k : ℕ) × (m ≡ suc s + k) × (p (get_or xs k d) ≡ true) = ih h in
@@ -92,7 +92,7 @@ module _ (t : List ℕ) (j : ℕ) where
   no_name x h e = e ∙ ap name_of (entry_past t j free_entry refl h)
 
   -- a name's length byte above 28 gives the whole 28
-  pub long_name : (n b : ℕ) (x : List ℕ) → j ≤ 127 → length t ≡ 8192 → b ≡ (entry_at (entries_of t) j).length → n ≡ b → 28 < n
+  long_name : (n b : ℕ) (x : List ℕ) → j ≤ 127 → length t ≡ 8192 → b ≡ (entry_at (entries_of t) j).length → n ≡ b → 28 < n
       → x ≡ part t (4096 + 32 * j + 4) (4096 + 32 * j + 4 + 28 - (4096 + 32 * j + 4)) → x ≡ name_of (entry_at (entries_of t) j)
   long_name n b x h l p q g e =
       let w : 4096 + 32 * j + 4 + 28 - (4096 + 32 * j + 4) ≡ 28 = omega arith in
@@ -101,11 +101,19 @@ module _ (t : List ℕ) (j : ℕ) where
       (rw (name_is h l, ← p)
       (take_all b (part t (4096 + 32 * j + 4) 28) (simp (length-take, length-drop) (omega arith))))
 
-  pub short_name : (n b : ℕ) (x : List ℕ) → j ≤ 127 → length t ≡ 8192 → b ≡ (entry_at (entries_of t) j).length → n ≡ b → n ≤ 28
+  short_name : (n b : ℕ) (x : List ℕ) → j ≤ 127 → length t ≡ 8192 → b ≡ (entry_at (entries_of t) j).length → n ≡ b → n ≤ 28
       → x ≡ part t (4096 + 32 * j + 4) (4096 + 32 * j + 4 + n - (4096 + 32 * j + 4)) → x ≡ name_of (entry_at (entries_of t) j)
   short_name n b x h l p q g e =
       let w : 4096 + 32 * j + 4 + n - (4096 + 32 * j + 4) ≡ b = omega arith in
       rw w at e ∙ sym (rw (name_is h l, ← p) (take-take b 28 (drop (4096 + 32 * j + 4) t) (omega arith)))
+
+  pub least_name : (n b : ℕ) (x : List ℕ) → j ≤ 127 → length t ≡ 8192 → b ≡ (entry_at (entries_of t) j).length → n ≡ min b 28
+      → x ≡ part t (4096 + 32 * j + 4) (4096 + 32 * j + 4 + n - (4096 + 32 * j + 4)) → x ≡ name_of (entry_at (entries_of t) j)
+  least_name n b x h l p q e = go (leb b 28) refl
+    where
+      go : (c : Bool) → leb b 28 ≡ c → x ≡ name_of (entry_at (entries_of t) j)
+      go true w = let s : b ≤ 28 = leb-true b 28 w in let k : n ≡ b = omega arith in short_name b b x h l p refl s (rw k at e)
+      go false w = let s : 28 < b = leb-false b 28 w in let k : n ≡ 28 = omega arith in long_name b b x h l p refl s (rw k at e)
 
 -- ---- a record's first bytes, where they lie in the table
 module _ (t : List ℕ) (i : ℕ) where
@@ -130,40 +138,3 @@ record_out f z t i h = sym z ∙ ap f (record_past t i free_record refl h)
 -- record 0, free, stands before the table's
 pub length_from_zero : (t : List ℕ) → length (free_record ∷ records_of t) ≡ 129
 length_from_zero t = ap suc (length_records t)
-
--- ---- how many pass, walked: `m` in all
-module _ {A : Type 0} (p : A → Bool) (xs : List A) (d : A) (i n m : ℕ) where
-  pub count_next : (r k : ℕ) → r ≡ one (p (get_or xs i d)) → length xs ≡ k → i < k → n + count_if p (drop i xs) ≡ m → n + r + count_if p (drop (i + 1) xs) ≡ m
-  unfolding count_if
-  count_next r k e l h w =
-      let s : count_if p (drop i xs) ≡ r + count_if p (drop (i + 1) xs) = rw (add-one i, drop-cons xs i d (omega arith), ← e) refl in
-      add_assoc n r (count_if p (drop (i + 1) xs)) ∙ (ap (λ (z : ℕ). n + z) (sym s) ∙ w)
-
-  pub count_end : (k : ℕ) → length xs ≡ k → k ≤ i → n + count_if p (drop i xs) ≡ m → n ≡ m
-  unfolding count_if
-  count_end k l h w = sym (add-zero n) ∙ (ap (λ (z : ℕ). n + z) (sym (rw (drop_of_length-le xs {i = i} (omega arith)) refl)) ∙ w)
-
--- ---- 1 or 0, from what the code's tests showed
-module _ (a r : ℕ) (q : r ≡ a) where
-  pub one_free : r ≡ 0 → 0 ≡ one (not (eqb a 0))
-  unfolding one
-  one_free h = rw (eq-eqb a 0 (sym q ∙ h)) refl
-
-  pub one_used : (r ≡ 0 → ⊥) → 1 ≡ one (not (eqb a 0))
-  unfolding one
-  one_used h = rw (ne_eqb a 0 (λ e. h (q ∙ e))) refl
-
-  pub names_none : (b n : ℕ) → r ≡ 0 → 0 ≡ one (cond (eqb a 0) false (eqb b n))
-  unfolding one
-  names_none b n h = rw (eq-eqb a 0 (sym q ∙ h)) refl
-
-  module _ (b s n : ℕ) (p : s ≡ b) (h : r ≡ 0 → ⊥) where
-    pub names_one : s ≡ n → 1 ≡ one (cond (eqb a 0) false (eqb b n))
-    unfolding one
-    names_one e = rw (ne_eqb a 0 (λ z. h (q ∙ z)), eq-eqb b n (sym p ∙ e)) refl
-
-    pub names_other : (s ≡ n → ⊥) → 0 ≡ one (cond (eqb a 0) false (eqb b n))
-    unfolding one
-    names_other e = rw (ne_eqb a 0 (λ z. h (q ∙ z)), ne_eqb b n (λ z. e (p ∙ z))) refl
-
-pub ruleset ones = (one_free, one_used, names_none, names_one, names_other)

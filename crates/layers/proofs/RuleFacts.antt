@@ -1,4 +1,5 @@
 -- What the table rules give whoever uses a valid table. Assumes nothing.
+use Rattle.std.specs.Prelude.{Some}
 use mathlib.Core.Path.{◌≡◌, refl, sym, ap, ◌∙◌}
 use Prim.Native.Nat.{ℕ, zero, suc, ◌≤◌, ◌<◌}
 use native.Mathlib.Omega.{arith}
@@ -12,7 +13,6 @@ use Rattle.layers.specs.Items.{records_of, entries_of, record_at, entry_at, free
 use Rattle.layers.specs.Search.{name_of, search_of}
 use Rattle.layers.specs.Rules.{Present, Used, NamesAt, NamedOnce, Valid, once_test}
 use Rattle.layers.specs.declared.items.Record.{Record}
-use Rattle.layers.specs.declared.search.Found.TheVariants.{At}
 use Rattle.layers.proofs.ItemLaws.{length_records, length_entries}
 use Rattle.layers.proofs.EveryLaws.{everywhere}
 use Rattle.layers.proofs.RuleDistinct.{distinct_exactly, used_inside, once_sound}
@@ -69,6 +69,6 @@ module _ (t : List ℕ) (v : Valid t) where
       go (no d) = (v.named i).other_named p d
 
   -- a search for an entry's parent and name finds the entry
-  pub search_finds : (j : ℕ) → Used (entries_of t) j → search_of (entries_of t) (entry_at (entries_of t) j).parent (name_of (entry_at (entries_of t) j)) ≡ At j
+  pub search_finds : (j : ℕ) → Used (entries_of t) j → search_of (entries_of t) (entry_at (entries_of t) j).parent (name_of (entry_at (entries_of t) j)) ≡ Some j
   search_finds j u =
       once_sound (entries_of t) j u (everywhere (once_test (entries_of t)) free_entry (λ _. unfold once_test in refl) (entries_of t) ((distinct_exactly (entries_of t)).whole v.distinct) j)

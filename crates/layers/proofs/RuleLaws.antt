@@ -5,6 +5,7 @@ use native.Mathlib.Omega.{arith}
 use mathlib.Core.Bool.{Bool, true, false, not, cond}
 use mathlib.Core.List.{List, [], ◌∷◌}
 use lib.Dec.{eqb, ltb}
+use Rattle.std.specs.Prelude.{Option, Some, None, is_some}
 use lib.ListN.{length, take, drop, get_or, replicate}
 use lib.Seq.{get_or-drop}
 use borrow.Author.Tests.{eqb-true, eqb-false, ltb-true, lt-ltb}
@@ -12,14 +13,14 @@ use Rattle.layers.specs.Names.{Name, same_name, holds, malformed_name}
 use Rattle.layers.specs.Kinds.{kind_number, kind_of}
 use Rattle.layers.specs.Items.{record_at, entry_at, free_record, free_entry}
 use Rattle.layers.specs.Search.{names_record, naming}
-use Rattle.layers.specs.Rules.{Exactly, free_record_test, is_kind, kind_test, device_test, opaque_test, GoodRecord, settings_test, record_test, free_entry_test, all_zero, WellFormed, GoodEntry, name_test, entry_test, RootIsDirectory, root_test, GoodEnds, ends_test, NamesAt, NamedOnce, DirectoryIsNamedOnce, once_named_test, OtherIsNamed, named_test, GoodNaming, count_test, naming_test}
+use Rattle.layers.specs.Rules.{Exactly, free_record_test, kind_test, device_test, opaque_test, GoodRecord, settings_test, record_test, free_entry_test, all_zero, WellFormed, GoodEntry, name_test, entry_test, RootIsDirectory, root_test, GoodEnds, ends_test, NamesAt, NamedOnce, DirectoryIsNamedOnce, once_named_test, OtherIsNamed, named_test, GoodNaming, count_test, naming_test}
 use Rattle.layers.proofs.NameLaws.{same_true, same_refl}
 use Rattle.layers.proofs.EveryLaws.{no_true, eqb_exactly, leb_exactly, both, again, sure, never, refuted, split}
 use Rattle.layers.proofs.CountLaws.{count_one, one_count, some_count, count_some}
 use Rattle.layers.specs.declared.items.Record.{Record}
 use Rattle.layers.specs.declared.items.Entry.{Entry}
 use Rattle.layers.specs.declared.kinds.Kind.{Kind}
-use Rattle.layers.specs.declared.kinds.Kind.TheVariants.{Fifo, Character, Directory, Block, Regular, Symlink, Socket, NoKind}
+use Rattle.layers.specs.declared.kinds.Kind.TheVariants.{Fifo, Character, Directory, Block, Regular, Symlink, Socket}
 
 -- ---- one record
 
@@ -42,44 +43,43 @@ free_record_exactly r n = again zeros (λ z. blank z) (λ e. rw e (refl, (refl, 
     blank z =
         zero_record r.number r.kind r.opaque r.mark r.permissions r.links r.device r.size r.content n z.0 z.1.0 z.1.1.0 z.1.1.1.0 z.1.1.1.1.0 z.1.1.1.1.1.0 z.1.1.1.1.1.1.0 z.1.1.1.1.1.1.1
 
-kind_step : (n m : ℕ) (k x : Kind) → kind_number k ≡ m → (is_kind x ≡ true → n ≡ kind_number x) → is_kind (cond (eqb n m) k x) ≡ true → n ≡ kind_number (cond (eqb n m) k x)
+kind_step : (n m : ℕ) (k : Kind) (x : Option Kind) → kind_number k ≡ m → ((j : Kind) → x ≡ Some j → n ≡ kind_number j) → (j : Kind) → cond (eqb n m) (Some k) x ≡ Some j → n ≡ kind_number j
 kind_step n m k x e f = go (eqb n m) refl
   where
-    go : (b : Bool) → eqb n m ≡ b → is_kind (cond b k x) ≡ true → n ≡ kind_number (cond b k x)
-    go true q h = eqb-true n m q ∙ sym e
-    go false q h = f h
+    go : (b : Bool) → eqb n m ≡ b → (j : Kind) → cond b (Some k) x ≡ Some j → n ≡ kind_number j
+    go true q j h = let i : k ≡ j = cc in eqb-true n m q ∙ sym e ∙ ap kind_number i
+    go false q j h = f j h
 
-kind_number_lem : (n : ℕ) → is_kind (kind_of n) ≡ true → n ≡ kind_number (kind_of n)
-unfolding kind_of is_kind
+kind_number_lem : (n : ℕ) (j : Kind) → kind_of n ≡ Some j → n ≡ kind_number j
+unfolding kind_of
 kind_number_lem n =
-    kind_step n 1 Fifo (cond (eqb n 2) Character (cond (eqb n 4) Directory (cond (eqb n 6) Block (cond (eqb n 8) Regular (cond (eqb n 10) Symlink (cond (eqb n 12) Socket NoKind)))))) refl
-    (kind_step n 2 Character (cond (eqb n 4) Directory (cond (eqb n 6) Block (cond (eqb n 8) Regular (cond (eqb n 10) Symlink (cond (eqb n 12) Socket NoKind))))) refl
-    (kind_step n 4 Directory (cond (eqb n 6) Block (cond (eqb n 8) Regular (cond (eqb n 10) Symlink (cond (eqb n 12) Socket NoKind)))) refl
-    (kind_step n 6 Block (cond (eqb n 8) Regular (cond (eqb n 10) Symlink (cond (eqb n 12) Socket NoKind))) refl
-    (kind_step n 8 Regular (cond (eqb n 10) Symlink (cond (eqb n 12) Socket NoKind)) refl
-    (kind_step n 10 Symlink (cond (eqb n 12) Socket NoKind) refl (kind_step n 12 Socket NoKind refl (λ h. no_true h)))))))
+    kind_step n 1 Fifo _ refl
+    (kind_step n 2 Character _ refl
+    (kind_step n 4 Directory _ refl
+    (kind_step n 6 Block _ refl
+    (kind_step n 8 Regular _ refl
+    (kind_step n 10 Symlink _ refl (kind_step n 12 Socket None refl (λ j h. absurd (let z : ◌≡◌ {A = Option Kind} None (Some j) = h in cc))))))))
 
-kind_is_kind : (k : Kind) → (k ≡ NoKind → ⊥) → is_kind (kind_of (kind_number k)) ≡ true
-unfolding kind_of is_kind
-kind_is_kind Fifo n = refl
-kind_is_kind Character n = refl
-kind_is_kind Directory n = refl
-kind_is_kind Block n = refl
-kind_is_kind Regular n = refl
-kind_is_kind Symlink n = refl
-kind_is_kind Socket n = refl
-kind_is_kind NoKind n = absurd (n refl)
+kind_is_kind : (k : Kind) → is_some (kind_of (kind_number k)) ≡ true
+unfolding kind_of
+kind_is_kind Fifo = refl
+kind_is_kind Character = refl
+kind_is_kind Directory = refl
+kind_is_kind Block = refl
+kind_is_kind Regular = refl
+kind_is_kind Symlink = refl
+kind_is_kind Socket = refl
 
-no_kind : is_kind NoKind ≡ false
-unfolding is_kind
-no_kind = refl
-
-pub kind_exactly : (n : ℕ) → Exactly (kind_test n) ((k : Kind) × (k ≡ NoKind → ⊥) × (n ≡ kind_number k))
+pub kind_exactly : (n : ℕ) → Exactly (kind_test n) ((k : Kind) × (n ≡ kind_number k))
 kind_exactly n =
     record {
-      sound = λ h. (kind_of n, (λ e. no_true (sym no_kind ∙ (ap is_kind (sym e) ∙ h))), kind_number_lem n h);
-      whole = λ k. rw k.2 (kind_is_kind k.0 k.1);
+      sound = found (kind_of n) refl;
+      whole = λ k. rw k.1 (kind_is_kind k.0);
     }
+  where
+    found : (x : Option Kind) → kind_of n ≡ x → is_some x ≡ true → (k : Kind) × (n ≡ kind_number k)
+    found (Some k) e h = (k, kind_number_lem n k e)
+    found None e h = no_true h
 
 pub opaque_exactly : (o k : ℕ) → Exactly (opaque_test o k) ((o ≡ 0 → ⊥) → k ≡ 4)
 unfolding opaque_test

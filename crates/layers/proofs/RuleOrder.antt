@@ -1,13 +1,16 @@
 -- The pass that keeps entry places in the order of parent and name decides whether names are distinct. Assumes nothing.
+use Rattle.std.specs.Prelude.{Option, Some, None}
+use Rattle.std.specs.declared.cmp.Ordering.{Ordering}
+use Rattle.std.specs.declared.cmp.Ordering.TheVariants.{Less, Equal, Greater}
 use mathlib.Core.Path.{◌≡◌, refl, sym, ap, ap₂, ◌∙◌, subst}
 use mathlib.Core.Logic.{◌⊎◌, inl, inr}
-use Prim.Native.Nat.{ℕ, suc, ◌+◌, ◌-◌, ◌/◌, ◌≤◌, ◌<◌}
+use Prim.Native.Nat.{ℕ, suc, ◌+◌, ◌≤◌, ◌<◌}
 use native.Mathlib.Omega.{arith}
 use native.Mathlib.Decide.{ℕ_discrete}
 use mathlib.Core.Bool.{Bool, true, false}
 use mathlib.Core.List.{List, [], ◌∷◌}
 use lib.Dec.{ltb}
-use lib.ListN.{length, take, get_or}
+use lib.ListN.{length, take}
 use borrow.Author.Tests.{ltb-true, ltb-false}
 use Rattle.layers.specs.Names.{Name, order_of}
 use Rattle.layers.specs.Items.{entry_at, free_entry}
@@ -20,25 +23,21 @@ use Rattle.layers.specs.RulesOrder.{place_key, is_open, put_spot, PutPlace}
 use Rattle.layers.proofs.EveryLaws.{no_true}
 use Rattle.layers.proofs.RuleDistinct.{distinct_exactly}
 use Rattle.layers.proofs.OrderLaws.{before_lt, after_gt, order_eq, same_one, same_self}
-use Rattle.layers.proofs.SortLaws.{insert_sorted, Halved, halved_same}
+use Rattle.layers.proofs.SortLaws.{insert_sorted}
 use Rattle.layers.proofs.PlaceLaws.{insert_free, length_put_in}
 use Rattle.layers.specs.declared.items.Entry.{Entry}
-use Rattle.layers.specs.declared.names.Order.{Order}
-use Rattle.layers.specs.declared.names.Order.TheVariants.{Before, Same, After}
-use Rattle.layers.specs.declared.spots.Spot.{Spot}
-use Rattle.layers.specs.declared.spots.Spot.TheVariants.{Free, Taken}
 
 -- ---- two places compared, parent before name
 module _ (es : List Entry) (a b x y : ℕ) (x_is : x ≡ (entry_at es a).parent) (y_is : y ≡ (entry_at es b).parent) where
-  pub key_before : x < y → Before ≡ order_of (place_key es a) (place_key es b)
+  pub key_before : x < y → Less ≡ order_of (place_key es a) (place_key es b)
   unfolding place_key
   key_before h = sym (before_lt (entry_at es a).parent (entry_at es b).parent (name_of (entry_at es a)) (name_of (entry_at es b)) (omega arith))
 
-  pub key_after : y < x → After ≡ order_of (place_key es a) (place_key es b)
+  pub key_after : y < x → Greater ≡ order_of (place_key es a) (place_key es b)
   unfolding place_key
   key_after h = sym (after_gt (entry_at es a).parent (entry_at es b).parent (name_of (entry_at es a)) (name_of (entry_at es b)) (omega arith))
 
-  pub key_name : y ≤ x → x ≤ y → (o : Order) (m n : Name) → o ≡ order_of m n → m ≡ name_of (entry_at es a) → n ≡ name_of (entry_at es b) → o ≡ order_of (place_key es a) (place_key es b)
+  pub key_name : y ≤ x → x ≤ y → (o : Ordering) (m n : Name) → o ≡ order_of m n → m ≡ name_of (entry_at es a) → n ≡ name_of (entry_at es b) → o ≡ order_of (place_key es a) (place_key es b)
   unfolding place_key
   key_name h l o m n e p q =
       e ∙ (ap₂ order_of p q ∙ sym (order_eq (entry_at es a).parent (entry_at es b).parent (name_of (entry_at es a)) (name_of (entry_at es b)) (omega arith)))
@@ -63,48 +62,48 @@ module _ (f : ℕ → Name) (j : ℕ) where
   has_insert i [] h = absurd h
   has_insert i (q ∷ ps) h = go (order_of (f j) (f q)) h (has_insert i ps)
     where
-      go : (o : Order) → Has i (q ∷ ps) → (Has i ps → Has i (insert_by f j ps)) → Has i (insert_step o j q ps (insert_by f j ps))
-      go Before h ih = inr h
-      go Same h ih = h
-      go After (inl e) ih = inl e
-      go After (inr t) ih = inr (ih t)
+      go : (o : Ordering) → Has i (q ∷ ps) → (Has i ps → Has i (insert_by f j ps)) → Has i (insert_step o j q ps (insert_by f j ps))
+      go Less h ih = inr h
+      go Equal h ih = h
+      go Greater (inl e) ih = inl e
+      go Greater (inr t) ih = inr (ih t)
 
-  has_new : (k m : ℕ) (ps : List ℕ) → spot_from f k (f j) ps ≡ Free m → Has j (insert_by f j ps)
+  has_new : (k m : ℕ) (ps : List ℕ) → spot_from f k (f j) ps ≡ Some m → Has j (insert_by f j ps)
   unfolding insert_by insert_step spot_from spot_step
   has_new k m [] h = inl refl
   has_new k m (q ∷ ps) h = go (order_of (f j) (f q)) h (has_new (suc k) m ps)
     where
-      go : (o : Order) → spot_step o k (spot_from f (suc k) (f j) ps) ≡ Free m → (spot_from f (suc k) (f j) ps ≡ Free m → Has j (insert_by f j ps)) → Has j (insert_step o j q ps (insert_by f j ps))
-      go Before h ih = inl refl
-      go Same h ih = absurd (let z : ◌≡◌ {A = ℕ} 0 1 = cc in omega arith)
-      go After h ih = inr (ih h)
+      go : (o : Ordering) → spot_step o k (spot_from f (suc k) (f j) ps) ≡ Some m → (spot_from f (suc k) (f j) ps ≡ Some m → Has j (insert_by f j ps)) → Has j (insert_step o j q ps (insert_by f j ps))
+      go Less h ih = inl refl
+      go Equal h ih = absurd (let z : ◌≡◌ {A = ℕ} 0 1 = cc in omega arith)
+      go Greater h ih = inr (ih h)
 
   each_insert : (P : ℕ → Type 0) (ps : List ℕ) → P j → Each P ps → Each P (insert_by f j ps)
   unfolding insert_by insert_step
   each_insert P [] p h = (p, tt)
   each_insert P (q ∷ ps) p h = go (order_of (f j) (f q)) (each_insert P ps p h.1)
     where
-      go : (o : Order) → Each P (insert_by f j ps) → Each P (insert_step o j q ps (insert_by f j ps))
-      go Before ih = (p, h)
-      go Same ih = h
-      go After ih = (h.0, ih)
+      go : (o : Ordering) → Each P (insert_by f j ps) → Each P (insert_step o j q ps (insert_by f j ps))
+      go Less ih = (p, h)
+      go Equal ih = h
+      go Greater ih = (h.0, ih)
 
   -- a spot that is taken is an item's with that name
-  taken_by : {P : ℕ → Type 0} (k : ℕ) (ps : List ℕ) → spot_from f k (f j) ps ≡ Taken → Each P ps → (q : ℕ) × P q × (f j ≡ f q)
+  taken_by : {P : ℕ → Type 0} (k : ℕ) (ps : List ℕ) → spot_from f k (f j) ps ≡ None → Each P ps → (q : ℕ) × P q × (f j ≡ f q)
   unfolding spot_from spot_step
   taken_by k [] h e = absurd (let z : ◌≡◌ {A = ℕ} 0 1 = cc in omega arith)
   taken_by {P} k (q ∷ ps) h e = go (order_of (f j) (f q)) refl h (λ t. taken_by (suc k) ps t e.1)
     where
-      go : (o : Order) → order_of (f j) (f q) ≡ o → spot_step o k (spot_from f (suc k) (f j) ps) ≡ Taken → (spot_from f (suc k) (f j) ps ≡ Taken → (q : ℕ) × P q × (f j ≡ f q)) → (q : ℕ) × P q × (f j ≡ f q)
-      go Before w h ih = absurd (let z : ◌≡◌ {A = ℕ} 0 1 = cc in omega arith)
-      go Same w h ih = (q, e.0, same_one (f j) (f q) w)
-      go After w h ih = ih h
+      go : (o : Ordering) → order_of (f j) (f q) ≡ o → spot_step o k (spot_from f (suc k) (f j) ps) ≡ None → (spot_from f (suc k) (f j) ps ≡ None → (q : ℕ) × P q × (f j ≡ f q)) → (q : ℕ) × P q × (f j ≡ f q)
+      go Less w h ih = absurd (let z : ◌≡◌ {A = ℕ} 0 1 = cc in omega arith)
+      go Equal w h ih = (q, e.0, same_one (f j) (f q) w)
+      go Greater w h ih = ih h
 
 -- in a list in order, a name stands once
 module _ (f : ℕ → Name) where
   below_other : (x : Name) (i : ℕ) (ps : List ℕ) → Below f x ps → Has i ps → x ≡ f i → ⊥
   below_other x i [] b h e = h
-  below_other x i (q ∷ ps) b (inl z) e = (let w : Before ≡ Same = sym b.0 ∙ (ap (order_of x) (ap f (sym z) ∙ sym e) ∙ same_self x) in let o : ◌≡◌ {A = ℕ} 0 1 = cc in omega arith)
+  below_other x i (q ∷ ps) b (inl z) e = (let w : Less ≡ Equal = sym b.0 ∙ (ap (order_of x) (ap f (sym z) ∙ sym e) ∙ same_self x) in let o : ◌≡◌ {A = ℕ} 0 1 = cc in omega arith)
   below_other x i (q ∷ ps) b (inr t) e = below_other x i ps b.1 t e
 
   sorted_once : (i j : ℕ) (ps : List ℕ) → Sorted f ps → Has i ps → Has j ps → f i ≡ f j → i ≡ j
@@ -138,7 +137,7 @@ module _ (es : List Entry) (p : List ℕ) (j n : ℕ) (g : Ordered es j (take n 
       go i h u (yes w) = absurd (u (ap (λ (k : ℕ). (entry_at es k).parent) w ∙ (sym e ∙ z)))
       go i h u (no w) = g.all i (let l : (i ≡ j → ⊥) = w in omega arith) u
 
-  abbrev spot : Spot
+  abbrev spot : Option ℕ
   spot = spot_from (place_key es) 0 (place_key es j) (take n p)
 
   module _ (x : ℕ) (x_is : x ≡ (entry_at es j).parent) (x_used : x ≡ 0 → ⊥) (r : Bool) (r_is : r ≡ is_open spot) where
@@ -149,7 +148,7 @@ module _ (es : List Entry) (p : List ℕ) (j n : ℕ) (g : Ordered es j (take n 
     unfolding is_open
     taken_twice h = go spot refl (sym r_is ∙ h)
       where
-        twice : spot ≡ Taken → NamesAreDistinct es → ⊥
+        twice : spot ≡ None → NamesAreDistinct es → ⊥
         twice s d =
             let t : (q : ℕ) × (Used es q × (q < j)) × (place_key es j ≡ place_key es q) = taken_by (place_key es) j 0 (take n p) s g.these in
             let k : ((entry_at es j).parent ≡ (entry_at es t.0).parent) × (name_of (entry_at es j) ≡ name_of (entry_at es t.0)) = key_same es j t.0 t.2 in
@@ -161,9 +160,9 @@ module _ (es : List Entry) (p : List ℕ) (j n : ℕ) (g : Ordered es j (take n 
         not_distinct true e w = absurd (w ((distinct_exactly es).sound e))
         not_distinct false e w = refl
 
-        go : (s : Spot) → spot ≡ s → is_open s ≡ false → false ≡ distinct_test es
-        go (Free i) e h = no_true (sym h)
-        go Taken e h = not_distinct (distinct_test es) refl (twice e)
+        go : (s : Option ℕ) → spot ≡ s → is_open s ≡ false → false ≡ distinct_test es
+        go (Some i) e h = no_true (sym h)
+        go None e h = not_distinct (distinct_test es) refl (twice e)
 
     pub ordered_next : r ≡ true → n ≤ j → j < 128 → length p ≡ 512 → (u : List ℕ) → u ≡ put_spot spot p n j → Ordered es (j + 1) (take (n + 1) u)
     unfolding is_open put_spot
@@ -172,10 +171,10 @@ module _ (es : List Entry) (p : List ℕ) (j n : ℕ) (g : Ordered es j (take n 
         up : (q : ℕ) → q < j → q < j + 1
         up q h = omega arith
 
-        go : (s : Spot) → spot ≡ s → is_open s ≡ true → u ≡ put_spot s p n j → Ordered es (j + 1) (take (n + 1) u)
-        go Taken e h w = no_true h
-        go (Free i) e h w =
-            subst (Ordered es (j + 1)) (sym (insert_free (place_key es) p n j (place_key es j) refl (Free i) (sym e) i refl l (omega arith) u w))
+        go : (s : Option ℕ) → spot ≡ s → is_open s ≡ true → u ≡ put_spot s p n j → Ordered es (j + 1) (take (n + 1) u)
+        go None e h w = no_true h
+        go (Some i) e h w =
+            subst (Ordered es (j + 1)) (sym (insert_free (place_key es) p n j (place_key es j) refl (Some i) (sym e) i refl l (omega arith) u w))
             (record {
               in_order = insert_sorted (place_key es) j (take n p) g.in_order;
               these = each_insert (place_key es) j (λ q. Used es q × (q < j + 1)) (take n p) (used_j, (let k : j < j + 1 = omega arith in k)) (each_map (λ q h. (h.0, up q h.1)) (take n p) g.these);
@@ -200,27 +199,21 @@ module _ (es : List Entry) (p : List ℕ) (j n : ℕ) (g : Ordered es j (take n 
       two : NamesAreDistinct es
       two i k u v a b = sorted_once (place_key es) i k (take n p) g.in_order (g.all i (inside i u) u) (g.all k (inside k v) v) (ap₂ ◌∷◌ a b)
 
-pub length_put_spot : (s : Spot) (p u : List ℕ) (n q : ℕ) → length p ≡ 512 → u ≡ put_spot s p n q → length u ≡ 512
+pub length_put_spot : (s : Option ℕ) (p u : List ℕ) (n q : ℕ) → length p ≡ 512 → u ≡ put_spot s p n q → length u ≡ 512
 unfolding put_spot
-length_put_spot (Free i) p u n q l e = rw e (length_put_in p n i q l)
-length_put_spot Taken p u n q l e = rw e l
+length_put_spot (Some i) p u n q l e = rw e (length_put_in p n i q l)
+length_put_spot None p u n q l e = rw e l
 
--- a place on its way through a callee
-pub key_of : (es : List Entry) (w q : ℕ) → w ≡ q → place_key es w ≡ place_key es q
-key_of es w q e = ap (place_key es) e
+-- a place compared on its way through a callee
+pub order_at : (es : List Entry) (x : Name) (w q : ℕ) (o : Ordering) → o ≡ order_of (place_key es w) x → w ≡ q → o ≡ order_of (place_key es q) x
+order_at es x w q o h e = h ∙ ap (λ (k : ℕ). order_of (place_key es k) x) e
 
 -- ---- as the code puts a place in
-module _ (es : List Entry) (p : List ℕ) (n j : ℕ) (s : Spot) (s_is : s ≡ spot_from (place_key es) 0 (place_key es j) (take n p)) where
-  pub put_taken : s ≡ Taken → PutPlace es p n j false p
+module _ (es : List Entry) (p : List ℕ) (n j : ℕ) (s : Option ℕ) (s_is : s ≡ spot_from (place_key es) 0 (place_key es j) (take n p)) where
+  pub put_taken : s ≡ None → PutPlace es p n j false p
   unfolding is_open put_spot
-  put_taken h = record { answer = ap is_open (sym h ∙ s_is); places = ap (λ (k : Spot). put_spot k p n j) (sym h ∙ s_is) }
+  put_taken h = record { answer = ap is_open (sym h ∙ s_is); places = ap (λ (k : Option ℕ). put_spot k p n j) (sym h ∙ s_is) }
 
-  pub put_free : (i : ℕ) → s ≡ Free i → (u : List ℕ) → u ≡ put_in p n i j → PutPlace es p n j true u
+  pub put_free : (i : ℕ) → s ≡ Some i → (u : List ℕ) → u ≡ put_in p n i j → PutPlace es p n j true u
   unfolding is_open put_spot
-  put_free i h u e = record { answer = ap is_open (sym h ∙ s_is); places = e ∙ ap (λ (k : Spot). put_spot k p n j) (sym h ∙ s_is) }
-
--- the halving meets the entry's parent and name
-pub halved_met : (es : List Entry) (p : List ℕ) (j : ℕ) (s : Spot) (lo hi : ℕ) → Halved (place_key es) p (place_key es j) s lo hi → length p ≡ 512 → hi ≤ 512 → lo < hi
-    → (w : ℕ) → w ≡ get_or p (lo + (hi - lo) / 2) 0 → (o : Order) → o ≡ order_of (place_key es j) (place_key es w) → o ≡ Same → Taken ≡ s
-halved_met es p j s lo hi h g b lt w w_is o o_is e =
-    halved_same (place_key es) p (place_key es j) s lo hi (lo + (hi - lo) / 2) h g b lt refl (place_key es w) (key_of es w (get_or p (lo + (hi - lo) / 2) 0) w_is) o o_is e
+  put_free i h u e = record { answer = ap is_open (sym h ∙ s_is); places = e ∙ ap (λ (k : Option ℕ). put_spot k p n j) (sym h ∙ s_is) }

@@ -1,44 +1,21 @@
 -- The table rules as the code runs them. Assumes nothing.
 use mathlib.Core.Path.{◌≡◌, refl, sym, ap, ◌∙◌}
-use Prim.Native.Nat.{ℕ, zero, suc, ◌+◌, ◌-◌, ◌≤◌, ◌<◌}
+use Prim.Native.Nat.{ℕ, zero, suc, ◌-◌, ◌≤◌, ◌<◌}
 use native.Mathlib.Omega.{arith}
-use native.Mathlib.Numerals.{add-one}
 use mathlib.Core.Bool.{Bool, true, false, not, cond}
 use mathlib.Core.List.{List}
 use lib.Dec.{eqb, leb}
-use lib.ListN.{length, take, drop, get_or, drop_of_length-le, length-take, length-drop}
-use lib.Seq.{drop-cons, take_all}
+use lib.ListN.{length, take, drop, get_or, length-take, length-drop}
+use lib.Seq.{take_all}
 use borrow.Author.Tests.{eq-eqb, ne_eqb, not-true, not-false, le-leb, lt-leb}
 use Rattle.layers.specs.Names.{malformed_name}
-use Rattle.layers.specs.Kinds.{kind_of}
 use Rattle.layers.specs.Items.{record_at}
 use Rattle.layers.specs.Search.{naming}
-use Rattle.layers.specs.Rules.{every, is_kind, kind_test, all_zero, name_test, entry_test, child_test, ends_test, record_test, count_test, naming_test, climbs, reach_test, entries_test, records_test}
+use Rattle.layers.specs.Rules.{every, all_zero, name_test, entry_test, ends_test, record_test, count_test, naming_test, climbs, reach_test, entries_test, records_test}
 use Rattle.layers.specs.RulesTally.{Counted, Parented, entry_holds, record_holds}
 use Rattle.layers.proofs.EveryLaws.{every_both}
 use Rattle.layers.specs.declared.items.Record.{Record}
 use Rattle.layers.specs.declared.items.Entry.{Entry}
-use Rattle.layers.specs.declared.kinds.Kind.{Kind}
-
--- a kind that a `match` showed
-pub kind_shown : (n : ℕ) (k m : Kind) (b : Bool) → k ≡ kind_of n → k ≡ m → b ≡ is_kind m → b ≡ kind_test n
-kind_shown n k m b p q h = h ∙ ap is_kind (sym q ∙ p)
-
--- ---- zeros, walked
-module _ (x : List ℕ) (i : ℕ) where
-  pub zero_next : i < length x → get_or x i 0 ≡ 0 → all_zero (drop i x) ≡ all_zero x → all_zero (drop (i + 1) x) ≡ all_zero x
-  unfolding all_zero
-  zero_next l e h = rw (add-one i) (sym (rw (drop-cons x i 0 l, eq-eqb (get_or x i 0) 0 e) refl) ∙ h)
-
-  pub zero_not : i < length x → (get_or x i 0 ≡ 0 → ⊥) → all_zero (drop i x) ≡ all_zero x → false ≡ all_zero x
-  unfolding all_zero
-  zero_not l e h = sym (rw (drop-cons x i 0 l, ne_eqb (get_or x i 0) 0 e) refl) ∙ h
-
-  pub zero_end : length x ≤ i → all_zero (drop i x) ≡ all_zero x → true ≡ all_zero x
-  unfolding all_zero
-  zero_end l h = sym (rw (drop_of_length-le x {i = i} l) refl) ∙ h
-
-pub ruleset zero_walk = (zero_next, zero_not, zero_end)
 
 -- ---- a callee's test, turned round
 module _ {A : Type 0} (z x y : A) (r t : Bool) (q : r ≡ t) where
@@ -85,13 +62,7 @@ name_test_of n m x r q e = q ∙ ap (λ (k : ℕ). name_test k x) e
 pub length_front : (x : List ℕ) (n : ℕ) → n ≤ 28 → length x ≡ 28 → n ≡ length (take n x)
 length_front x n m l = simp length-take (omega arith)
 
--- ---- a record's place, and an item, on their way through a callee
-module _ (rs : List Record) (r w p : ℕ) where
-  pub kind_via : r ≡ (record_at rs w).kind → w ≡ p → r ≡ (record_at rs p).kind
-  kind_via e w_is = e ∙ ap (λ (i : ℕ). (record_at rs i).kind) w_is
-
-  pub child_via : r ≡ (record_at rs w).number → w ≡ p → not (eqb r 0) ≡ child_test rs p
-  child_via e w_is = ap (λ (k : ℕ). not (eqb k 0)) (e ∙ ap (λ (i : ℕ). (record_at rs i).number) w_is)
+-- ---- an item on its way through a callee
 
 pub entry_test_of : (e g : Entry) (r : Bool) → r ≡ entry_test e → e ≡ g → r ≡ entry_test g
 entry_test_of e g r q e_is = q ∙ ap entry_test e_is
@@ -145,9 +116,9 @@ module _ (es : List Entry) (n q : ℕ) (b : Bool) where
       go zero h w = absurd (omega arith)
       go (suc m) h w = sym (rw (ne_eqb q 1 e, eq-eqb q 0 z) refl) ∙ w
 
-  pub climb_next : (p : List ℕ) (w : ℕ) → 0 < n → (q ≡ 1 → ⊥) → (q ≡ 0 → ⊥) → q < 256 → Parented es p → w ≡ get_or p q 0 → climbs n es q ≡ b → climbs (n - 1) es w ≡ b
+  pub climb_next : (p : List ℕ) (w : ℕ) → 0 < n → (q ≡ 1 → ⊥) → (q ≡ 0 → ⊥) → q < 256 → Parented es p → w ≡ get_or p q 0 → climbs n es q ≡ b → (m : ℕ) → m ≡ n - 1 → climbs m es w ≡ b
   unfolding climbs
-  climb_next p w h e z l g x k = go n h k
+  climb_next p w h e z l g x k m m_is = rw m_is (go n h k)
     where
       go : (n : ℕ) → 0 < n → climbs n es q ≡ b → climbs (n - 1) es w ≡ b
       go zero h k = absurd (omega arith)

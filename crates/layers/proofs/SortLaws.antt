@@ -1,59 +1,61 @@
 -- Lists in byte order of names: one more put in, and the search by halving. Assumes nothing.
+use Rattle.std.specs.Prelude.{Option, Some, None, Result, Ok, Err}
+use Rattle.std.specs.Ordering.{ordering_index}
+use Rattle.std.specs.Result.{result_err}
+use Rattle.std.specs.List.Sorted.{IsSearchInRange, IsPartitionPoint, IsBinarySearchResult}
+use Rattle.std.specs.declared.cmp.Ordering.{Ordering}
+use Rattle.std.specs.declared.cmp.Ordering.TheVariants.{Less, Equal, Greater}
 use mathlib.Core.Path.{◌≡◌, refl, sym, ap, ◌∙◌, subst}
-use Prim.Native.Nat.{ℕ, suc, ◌+◌, ◌-◌, ◌/◌, ◌≤◌, ◌<◌}
+use Prim.Native.Nat.{ℕ, zero, suc, ◌+◌, ◌-◌, ◌/◌, ◌≤◌, ◌<◌}
 use native.Mathlib.Omega.{arith}
-use native.Mathlib.Nat.{add-zero, sub-zero}
+use native.Mathlib.Nat.{add-zero, zero-add, sub-zero}
 use native.Mathlib.Numerals.{add-one}
 use mathlib.Core.List.{List, [], ◌∷◌, ◌++◌}
 use lib.ListN.{length, take, drop, get_or, length-take, length-drop}
 use lib.Seq.{drop-cons, take-add, drop-drop}
 use Rattle.layers.specs.Bytes.{part}
 use Rattle.layers.specs.Names.{Name, order_of}
-use Rattle.layers.specs.declared.names.Order.{Order}
-use Rattle.layers.specs.declared.names.Order.TheVariants.{Before, Same, After}
 use Rattle.layers.specs.Order.{insert_step, insert_by, spot_step, spot_from}
 use Rattle.layers.specs.Sorted.{Below, Sorted}
-use Rattle.layers.proofs.OrderLaws.{before_trans, after_before, before_after, same_one}
-use Rattle.layers.specs.declared.spots.Spot.{Spot}
-use Rattle.layers.specs.declared.spots.Spot.TheVariants.{Free, Taken}
+use Rattle.layers.proofs.OrderLaws.{before_trans, after_before, before_after, same_one, same_self}
 
 -- ---- lists
 
 module _ {A : Type 0} (f : A → Name) where
-  below_down : (x y : Name) (ys : List A) → order_of x y ≡ Before → Below f y ys → Below f x ys
+  below_down : (x y : Name) (ys : List A) → order_of x y ≡ Less → Below f y ys → Below f x ys
   below_down x y [] h b = tt
   below_down x y (z ∷ ys) h b = (before_trans x y (f z) h b.0, below_down x y ys h b.1)
 
-  below_insert : (x : Name) (q : A) (ys : List A) → order_of x (f q) ≡ Before → Below f x ys → Below f x (insert_by f q ys)
+  below_insert : (x : Name) (q : A) (ys : List A) → order_of x (f q) ≡ Less → Below f x ys → Below f x (insert_by f q ys)
   unfolding insert_by insert_step
   below_insert x q [] h b = (h, tt)
   below_insert x q (y ∷ ys) h b = go (order_of (f q) (f y)) (below_insert x q ys h b.1)
     where
-      go : (o : Order) → Below f x (insert_by f q ys) → Below f x (insert_step o q y ys (insert_by f q ys))
-      go Before ih = (h, b)
-      go Same ih = b
-      go After ih = (b.0, ih)
+      go : (o : Ordering) → Below f x (insert_by f q ys) → Below f x (insert_step o q y ys (insert_by f q ys))
+      go Less ih = (h, b)
+      go Equal ih = b
+      go Greater ih = (b.0, ih)
 
   pub insert_sorted : (q : A) (ys : List A) → Sorted f ys → Sorted f (insert_by f q ys)
   unfolding insert_by insert_step
   insert_sorted q [] s = (tt, tt)
   insert_sorted q (y ∷ ys) s = go (order_of (f q) (f y)) refl (insert_sorted q ys s.1)
     where
-      go : (o : Order) → order_of (f q) (f y) ≡ o → Sorted f (insert_by f q ys) → Sorted f (insert_step o q y ys (insert_by f q ys))
-      go Before e ih = ((e, below_down (f q) (f y) ys e s.0), s)
-      go Same e ih = s
-      go After e ih = (below_insert (f y) q ys (after_before (f q) (f y) e) s.0, ih)
+      go : (o : Ordering) → order_of (f q) (f y) ≡ o → Sorted f (insert_by f q ys) → Sorted f (insert_step o q y ys (insert_by f q ys))
+      go Less e ih = ((e, below_down (f q) (f y) ys e s.0), s)
+      go Equal e ih = s
+      go Greater e ih = (below_insert (f y) q ys (after_before (f q) (f y) e) s.0, ih)
 
   -- every item comes before the name
   abbrev Under : Name → List A → Type 0
   Under x [] = Unit {0}
-  Under x (y ∷ ys) = (order_of (f y) x ≡ Before) × Under x ys
+  Under x (y ∷ ys) = (order_of (f y) x ≡ Less) × Under x ys
 
-  under_up : (x y : Name) (ws : List A) → order_of x y ≡ Before → Under x ws → Under y ws
+  under_up : (x y : Name) (ws : List A) → order_of x y ≡ Less → Under x ws → Under y ws
   under_up x y [] h u = tt
   under_up x y (a ∷ ws) h u = (before_trans (f a) x y u.0 h, under_up x y ws h u.1)
 
-  below_at : (x : Name) (ws : List A) (y : A) (bs : List A) → Below f x (ws ++ y ∷ bs) → order_of x (f y) ≡ Before
+  below_at : (x : Name) (ws : List A) (y : A) (bs : List A) → Below f x (ws ++ y ∷ bs) → order_of x (f y) ≡ Less
   below_at x [] y bs b = b.0
   below_at x (a ∷ ws) y bs b = below_at x ws y bs b.1
 
@@ -75,7 +77,7 @@ module _ {A : Type 0} (f : A → Name) where
 
   module _ (x : Name) (y : A) (bs : List A) where
     -- what stands after an item that comes after the name is not looked at
-    cut : (k : ℕ) (ws : List A) → order_of x (f y) ≡ Before → spot_from f k x (ws ++ y ∷ bs) ≡ spot_from f k x ws
+    cut : (k : ℕ) (ws : List A) → order_of x (f y) ≡ Less → spot_from f k x (ws ++ y ∷ bs) ≡ spot_from f k x ws
     unfolding spot_from spot_step
     cut k [] h = rw h refl
     cut k (a ∷ ws) h = ap (spot_step (order_of x (f a)) k) (cut (suc k) ws h)
@@ -86,13 +88,64 @@ module _ {A : Type 0} (f : A → Name) where
     skip k [] u = rw (add-zero k) refl
     skip k (a ∷ ws) u = let e : suc k + length ws ≡ k + suc (length ws) = omega arith in rw (before_after (f a) x u.0, ← e) (skip (suc k) ws u.1)
 
-    after : (k : ℕ) (ws : List A) → Sorted f (ws ++ y ∷ bs) → order_of x (f y) ≡ After → spot_from f k x (ws ++ y ∷ bs) ≡ spot_from f (suc (k + length ws)) x bs
+    after : (k : ℕ) (ws : List A) → Sorted f (ws ++ y ∷ bs) → order_of x (f y) ≡ Greater → spot_from f k x (ws ++ y ∷ bs) ≡ spot_from f (suc (k + length ws)) x bs
     unfolding spot_from spot_step
     after k ws s h = skip k ws (under_up (f y) x ws (after_before x (f y) h) (sorted_under ws y bs s)) ∙ rw h refl
 
-    same : (k : ℕ) (ws : List A) → Sorted f (ws ++ y ∷ bs) → order_of x (f y) ≡ Same → spot_from f k x (ws ++ y ∷ bs) ≡ Taken
+    same : (k : ℕ) (ws : List A) → Sorted f (ws ++ y ∷ bs) → order_of x (f y) ≡ Equal → spot_from f k x (ws ++ y ∷ bs) ≡ None
     unfolding spot_from spot_step
     same k ws s h = skip k ws (subst (λ (n : Name). Under n ws) (sym (same_one x (f y) h)) (sorted_under ws y bs s)) ∙ rw h refl
+
+-- ---- what `binary_search_by` answers
+module _ {A : Type 0} (f : A → Name) (x : Name) where
+  below_each : (d : A) (y : Name) (ys : List A) (j : ℕ) → Below f y ys → j < length ys → order_of y (f (get_or ys j d)) ≡ Less
+  below_each d y [] j b h = absurd (omega arith)
+  below_each d y (z ∷ ys) zero b h = b.0
+  below_each d y (z ∷ ys) (suc j) b h = below_each d y ys j b.1 (omega arith)
+
+  -- of two names the earlier compares no later with the third
+  index_up : (a b : Name) → order_of a b ≡ Less → ordering_index (order_of a x) ≤ ordering_index (order_of b x)
+  index_up a b h = go (order_of b x) refl
+    where
+      most : (o : Ordering) → ordering_index o ≤ 2
+      most Less = omega arith
+      most Equal = omega arith
+      most Greater = omega arith
+
+      go : (o : Ordering) → order_of b x ≡ o → ordering_index (order_of a x) ≤ ordering_index o
+      go Less e = rw (before_trans a b x h e) (omega arith)
+      go Equal e = rw (rw (same_one b x e) at h) (omega arith)
+      go Greater e = most (order_of a x)
+
+  rises : (d : A) (ys : List A) → Sorted f ys → (i j : ℕ) → i ≤ j → j < length ys → ordering_index (order_of (f (get_or ys i d)) x) ≤ ordering_index (order_of (f (get_or ys j d)) x)
+  rises d [] s i j l h = absurd (omega arith)
+  rises d (y ∷ ys) s zero zero l h = omega arith
+  rises d (y ∷ ys) s zero (suc j) l h = index_up (f y) (f (get_or ys j d)) (below_each d (f y) ys j s.0 (omega arith))
+  rises d (y ∷ ys) s (suc i) zero l h = absurd (omega arith)
+  rises d (y ∷ ys) s (suc i) (suc j) l h = rises d ys s.1 i j (omega arith) (omega arith)
+
+  met : (d : A) (ys : List A) (k i : ℕ) → Sorted f ys → i < length ys → order_of (f (get_or ys i d)) x ≡ Equal → spot_from f k x ys ≡ None
+  unfolding spot_from spot_step
+  met d [] k i s h e = absurd (omega arith)
+  met d (y ∷ ys) k zero s h e = rw (same_one (f y) x e, same_self x) refl
+  met d (y ∷ ys) k (suc i) s h e =
+      let b : order_of (f y) x ≡ Less = rw (same_one (f (get_or ys i d)) x e) at (below_each d (f y) ys i s.0 (omega arith)) in
+      rw (before_after (f y) x b) (met d ys (suc k) i s.1 (omega arith) e)
+
+  between : (d : A) (ys : List A) (k i : ℕ) → i ≤ length ys → ((j : ℕ) → j < i → order_of (f (get_or ys j d)) x ≡ Less) → (i < length ys → order_of (f (get_or ys i d)) x ≡ Greater) → spot_from f k x ys ≡ Some (k + i)
+  unfolding spot_from spot_step
+  between d [] k zero h l g = rw (add-zero k) refl
+  between d [] k (suc i) h l g = absurd (omega arith)
+  between d (y ∷ ys) k zero h l g = rw (after_before (f y) x (g (omega arith)), add-zero k) refl
+  between d (y ∷ ys) k (suc i) h l g =
+      let e : suc k + i ≡ k + suc i = omega arith in
+      rw (before_after (f y) x (l 0 (omega arith)), ← e) (between d ys (suc k) i (omega arith) (λ j m. l (suc j) (omega arith)) (λ m. g (omega arith)))
+
+  pub searched_spot : (d : A) (ys : List A) (r : Result ℕ ℕ) → Sorted f ys → IsSearchInRange r (length ys) → IsBinarySearchResult (λ y. order_of (f y) x) ys r → result_err r ≡ spot_from f 0 x ys
+  searched_spot d ys (Ok i) s l h = sym (met d ys 0 i s l (h d))
+  searched_spot d ys (Err i) s l h =
+      let w : IsPartitionPoint (λ y. order_of (f y) x ≡ Less) (λ y. order_of (f y) x ≡ Greater) ys i = h (λ a b c m n. rises c ys s a b m n) in
+      sym (between d ys 0 i l (λ j m. w.0 j d (omega arith) m) (λ m. w.1 i d (omega arith) m) ∙ ap Some (zero-add i))
 
 -- ---- the search by halving
 
@@ -103,18 +156,18 @@ split_part p lo mid hi a b c =
     rw (e, take-add (mid - lo) (suc (hi - suc mid)) (drop lo p), drop-drop (mid - lo) lo p, d, drop-cons p mid 0 (omega arith), add-one mid) refl
 
 -- what is left between `lo` and `hi` answers as the whole does
-pub record Halved (f : ℕ → Name) (p : List ℕ) (x : Name) (s : Spot) (lo hi : ℕ) : Type 0 where
+pub record Halved (f : ℕ → Name) (p : List ℕ) (x : Name) (s : Option ℕ) (lo hi : ℕ) : Type 0 where
   pub sorted : Sorted f (part p lo (hi - lo))
   pub answers : spot_from f lo x (part p lo (hi - lo)) ≡ s
 
 pub halved_start : (f : ℕ → Name) (p : List ℕ) (x : Name) (n : ℕ) → Sorted f (take n p) → Halved f p x (spot_from f 0 x (take n p)) 0 n
 halved_start f p x n s = record { sorted = rw (sub-zero n) s; answers = rw (sub-zero n) refl }
 
-pub halved_end : (f : ℕ → Name) (p : List ℕ) (x : Name) (s : Spot) (lo hi : ℕ) → Halved f p x s lo hi → hi ≤ lo → Free lo ≡ s
+pub halved_end : (f : ℕ → Name) (p : List ℕ) (x : Name) (s : Option ℕ) (lo hi : ℕ) → Halved f p x s lo hi → hi ≤ lo → Some lo ≡ s
 unfolding spot_from
 halved_end f p x s lo hi h l = let e : hi - lo ≡ 0 = omega arith in sym (rw e refl) ∙ h.answers
 
-module _ (f : ℕ → Name) (p : List ℕ) (x : Name) (s : Spot) (lo hi mid : ℕ) (h : Halved f p x s lo hi) (g : length p ≡ 512) (b : hi ≤ 512) (lt : lo < hi) (mid_is : mid ≡ lo + (hi - lo) / 2) (y : Name) (y_is : y ≡ f (get_or p mid 0)) (o : Order) (o_is : o ≡ order_of x y) where
+module _ (f : ℕ → Name) (p : List ℕ) (x : Name) (s : Option ℕ) (lo hi mid : ℕ) (h : Halved f p x s lo hi) (g : length p ≡ 512) (b : hi ≤ 512) (lt : lo < hi) (mid_is : mid ≡ lo + (hi - lo) / 2) (y : Name) (y_is : y ≡ f (get_or p mid 0)) (o : Ordering) (o_is : o ≡ order_of x y) where
   abbrev ls : List ℕ
   ls = part p lo (mid - lo)
 
@@ -124,7 +177,7 @@ module _ (f : ℕ → Name) (p : List ℕ) (x : Name) (s : Spot) (lo hi mid : �
   cut_here : part p lo (hi - lo) ≡ ls ++ get_or p mid 0 ∷ rs
   cut_here = split_part p lo mid hi (omega arith) (omega arith) (omega arith)
 
-  order_here : (k : Order) → o ≡ k → order_of x (f (get_or p mid 0)) ≡ k
+  order_here : (k : Ordering) → o ≡ k → order_of x (f (get_or p mid 0)) ≡ k
   order_here k e = rw (← y_is, ← o_is) e
 
   ordered : Sorted f (ls ++ get_or p mid 0 ∷ rs)
@@ -133,14 +186,14 @@ module _ (f : ℕ → Name) (p : List ℕ) (x : Name) (s : Spot) (lo hi mid : �
   answer : spot_from f lo x (ls ++ get_or p mid 0 ∷ rs) ≡ s
   answer = rw (← cut_here) h.answers
 
-  pub halved_before : o ≡ Before → Halved f p x s lo mid
-  halved_before e = record { sorted = sorted_left f ls (get_or p mid 0 ∷ rs) ordered; answers = sym (cut f x (get_or p mid 0) rs lo ls (order_here Before e)) ∙ answer }
+  pub halved_before : o ≡ Less → Halved f p x s lo mid
+  halved_before e = record { sorted = sorted_left f ls (get_or p mid 0 ∷ rs) ordered; answers = sym (cut f x (get_or p mid 0) rs lo ls (order_here Less e)) ∙ answer }
 
-  pub halved_same : o ≡ Same → Taken ≡ s
-  halved_same e = sym (same f x (get_or p mid 0) rs lo ls ordered (order_here Same e)) ∙ answer
+  pub halved_same : o ≡ Equal → None ≡ s
+  halved_same e = sym (same f x (get_or p mid 0) rs lo ls ordered (order_here Equal e)) ∙ answer
 
-  pub halved_after : o ≡ After → Halved f p x s (mid + 1) hi
+  pub halved_after : o ≡ Greater → Halved f p x s (mid + 1) hi
   halved_after e =
       let m : length ls ≡ mid - lo = simp (length-take, length-drop) (omega arith) in
       let k : suc (lo + length ls) ≡ mid + 1 = omega arith in
-      record { sorted = sorted_right f ls (get_or p mid 0) rs ordered; answers = sym (after f x (get_or p mid 0) rs lo ls ordered (order_here After e) ∙ ap (λ (i : ℕ). spot_from f i x rs) k) ∙ answer }
+      record { sorted = sorted_right f ls (get_or p mid 0) rs ordered; answers = sym (after f x (get_or p mid 0) rs lo ls ordered (order_here Greater e) ∙ ap (λ (i : ℕ). spot_from f i x rs) k) ∙ answer }

@@ -8,7 +8,7 @@ use lib.Dec.{eqb}
 use lib.ListN.{length, take, drop, get_or, replicate, take-append-drop, length-take, length-drop}
 use lib.Seq.{drop-cons, drop-drop, take_all}
 use borrow.Author.Tests.{eq-eqb, ne_eqb, eqb-true, eqb-false}
-use Rattle.layers.specs.Bytes.{part, le_of, number_at}
+use Rattle.layers.specs.Bytes.{part, le_of}
 use Rattle.layers.specs.Names.{same_name}
 use Rattle.layers.specs.Items.{record_of, entry_of, records_of, entries_of, record_at, entry_at, free_record, free_entry}
 use Rattle.layers.specs.Rules.{all_zero, free_record_test, free_entry_test, entry_test, ends_test, record_test, count_test, once_named_test, named_test, reach_test}
@@ -16,7 +16,6 @@ use Rattle.layers.specs.Search.{naming}
 use Rattle.layers.specs.RulesTally.{entry_holds, record_holds}
 use Rattle.layers.specs.declared.items.Record.{Record}
 use Rattle.layers.specs.declared.items.Entry.{Entry}
-use Rattle.layers.proofs.Numbers.{number_in}
 use Rattle.layers.proofs.ItemLaws.{entry_is, record_is, entry_past, record_past}
 
 scaled : (b n : ℕ) → b ≡ 0 → eqb (b + 256 * n) 0 ≡ eqb n 0
@@ -56,26 +55,6 @@ module _ (b : List ℕ) (k : ℕ) (q : Bool) where
 
 last_number : (b : List ℕ) (k n : ℕ) → length b ≤ k + n → all_zero (drop k b) ≡ eqb (le_of (part b k n)) 0
 last_number b k n l = sym (zero_number (part b k n) ∙ ap all_zero (take_all n (drop k b) (simp length-drop (omega arith))))
-
-pub by_words : (b : List ℕ) (r : Bool) → length b ≡ 32
-    → r ≡ cond (eqb (number_at 8 b 0) 0) (cond (eqb (number_at 8 b 8) 0) (cond (eqb (number_at 8 b 16) 0) (eqb (number_at 8 b 24) 0) false) false) false
-    → r ≡ all_zero b
-by_words b r l h =
-    rw (number_in 8 b 0 (omega arith), number_in 8 b 8 (omega arith), number_in 8 b 16 (omega arith), number_in 8 b 24 (omega arith)) at h
-    ∙ sym (by_number b 0 _ 8 (by_number b 8 _ 8 (by_number b 16 _ 8 (last_number b 24 8 (omega arith)))))
-
--- ---- zeros, walked by numbers
-module _ (x : List ℕ) (i r : ℕ) (l : i + 8 ≤ length x) (p : r ≡ number_at 8 x i) (w : all_zero (drop i x) ≡ all_zero x) where
-  zero_step : (t : Bool) → eqb r 0 ≡ t → cond t (all_zero (drop (i + 8) x)) false ≡ all_zero x
-  zero_step t e =
-      ap (λ (s : Bool). cond s (all_zero (drop (i + 8) x)) false) (sym e ∙ ap (λ (n : ℕ). eqb n 0) (p ∙ number_in 8 x i l))
-      ∙ (sym (by_number x i (all_zero (drop (i + 8) x)) 8 refl) ∙ w)
-
-  pub zero_word_next : r ≡ 0 → all_zero (drop (i + 8) x) ≡ all_zero x
-  zero_word_next h = zero_step true (eq-eqb r 0 h)
-
-  pub zero_word_not : (r ≡ 0 → ⊥) → false ≡ all_zero x
-  zero_word_not h = zero_step false (ne_eqb r 0 h)
 
 -- ---- a free record
 zero_record : (b : List ℕ) → length b ≡ 32 → get_or b 0 0 ≡ 0 → all_zero b ≡ free_record_test (record_of b)

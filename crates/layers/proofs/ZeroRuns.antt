@@ -1,15 +1,15 @@
 -- A run of zeros, told from all its bits together, and how far back it reaches. Assumes nothing.
 use mathlib.Core.Path.{◌≡◌, refl, sym, ap, ◌∙◌}
-use Prim.Native.Nat.{ℕ, suc, ◌+◌, ◌*◌, ◌-◌, ◌/◌, ◌≤◌, ◌<◌}
+use Prim.Native.Nat.{ℕ, ◌+◌, ◌*◌, ◌-◌, ◌/◌, ◌≤◌}
 use native.Mathlib.Omega.{arith}
-use native.Mathlib.Numerals.{add-one}
 use mathlib.Core.Bool.{Bool, true, false, not, cond}
 use mathlib.Core.List.{List, [], ◌∷◌}
 use lib.Bits.{bit_and, bit_or, or_add_and, and_le_l, and_le_r}
 use lib.Dec.{eqb}
-use lib.ListN.{length, take, drop, get_or, replicate, take-append-drop, drop_of_length-le}
-use lib.Seq.{drop-cons, drop-drop}
+use lib.ListN.{length, take, drop, replicate, take-append-drop, drop_of_length-le}
+use lib.Seq.{drop-drop}
 use borrow.Author.Tests.{eq-eqb, ne_eqb, eqb-true, eqb-false, not-false}
+use Rattle.std.specs.List.{fold}
 use Rattle.layers.specs.Rules.{all_zero}
 use Rattle.layers.proofs.EveryLaws.{no_true}
 use Rattle.layers.proofs.ZeroLaws.{zeros_append}
@@ -27,26 +27,24 @@ none_of o n a b s p q = go (eqb a 0) (eqb b 0) refl refl
 no_bit : (a b : ℕ) → eqb (bit_or a b) 0 ≡ cond (eqb a 0) (eqb b 0) false
 no_bit a b = none_of (bit_or a b) (bit_and a b) a b (or_add_and a b) (and_le_l a b) (and_le_r a b)
 
--- ---- walked: `x` has the bits of what comes before place `i`
-module _ (b : List ℕ) (x i : ℕ) (w : cond (eqb x 0) (all_zero (drop i b)) false ≡ all_zero b) where
-  pub bits_next : i < length b → cond (eqb (bit_or x (get_or b i 0)) 0) (all_zero (drop (i + 1) b)) false ≡ all_zero b
-  unfolding all_zero
-  bits_next l =
-      rw (add-one i)
-      (ap (λ (t : Bool). cond t (all_zero (drop (suc i) b)) false) (no_bit x (get_or b i 0))
-      ∙ (go (eqb x 0) (eqb (get_or b i 0) 0) (all_zero (drop (suc i) b)) ∙ (sym (ap (λ (t : List ℕ). cond (eqb x 0) (all_zero t) false) (drop-cons b i 0 l)) ∙ w)))
-    where
-      go : (p q r : Bool) → cond (cond p q false) r false ≡ cond p (cond q r false) false
-      go true q r = refl
-      go false q r = refl
+-- the bits of all bytes together, `x` having those of the bytes before
+all_bits : (bs : List ℕ) (x : ℕ) → eqb (fold bit_or x bs) 0 ≡ cond (eqb x 0) (all_zero bs) false
+unfolding all_zero
+all_bits [] x = go (eqb x 0)
+  where
+    go : (p : Bool) → p ≡ cond p true false
+    go true = refl
+    go false = refl
+all_bits (b ∷ bs) x =
+    all_bits bs (bit_or x b)
+    ∙ (ap (λ (t : Bool). cond t (all_zero bs) false) (no_bit x b) ∙ go (eqb x 0) (eqb b 0) (all_zero bs))
+  where
+    go : (p q r : Bool) → cond (cond p q false) r false ≡ cond p (cond q r false) false
+    go true q r = refl
+    go false q r = refl
 
-  pub bits_end : length b ≤ i → eqb x 0 ≡ all_zero b
-  unfolding all_zero
-  bits_end l = go (eqb x 0) (rw (drop_of_length-le b {i = i} l) at w)
-    where
-      go : (p : Bool) → cond p true false ≡ all_zero b → p ≡ all_zero b
-      go true e = e
-      go false e = e
+pub no_bits : (bs : List ℕ) (r : ℕ) → r ≡ fold bit_or 0 bs → eqb r 0 ≡ all_zero bs
+no_bits bs r e = rw e (all_bits bs 0)
 
 -- ---- a run that ends the list, and one before it
 

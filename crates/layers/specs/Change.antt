@@ -1,13 +1,11 @@
 -- An entry put and taken away, a record put: the only changes of a table. Assumes nothing.
-use Rattle.std.specs.Prelude.{◌≡◌, ℕ, cond, List, eqb, length, replicate}
+use Rattle.std.specs.Prelude.{◌≡◌, ℕ, cond, List, eqb, length, replicate, Option, Some, None}
 use Rattle.layers.specs.Bytes.{least, laid}
 use Rattle.layers.specs.Names.{Name}
 use Rattle.layers.specs.Items.{records_of, entries_of, entry_at, free_record, free_entry, with_record, with_entry, record_put, entry_put}
 use Rattle.layers.specs.Search.{is_free, naming, free_entry_place, free_record_place}
 use Rattle.layers.specs.declared.items.Record.{Record}
 use Rattle.layers.specs.declared.items.Entry.{Entry}
-use Rattle.layers.specs.declared.search.Found.{Found}
-use Rattle.layers.specs.declared.search.Found.TheVariants.{At, Missing}
 
 -- "An entry: parent record, name, child record.": one that names the record `c` as `x` in the directory `d`, "name, then zeros"
 unfoldable pub entry_naming : ℕ → Name → ℕ → Entry
@@ -16,23 +14,23 @@ entry_naming d x c = record { parent = d; child = c; length = least 28 (length x
 -- ---- "Each new record and entry takes the lowest free place."
 
 -- where a damaged table has no free place, adding leaves it as it is
-unfoldable pub entry_placed : List Entry → Found → Entry → List Entry
-entry_placed es (At k) e = with_entry es k e
-entry_placed es Missing e = es
+unfoldable pub entry_placed : List Entry → Option ℕ → Entry → List Entry
+entry_placed es (Some k) e = with_entry es k e
+entry_placed es None e = es
 
 abbrev pub entry_added : List Entry → Entry → List Entry
 entry_added es e = entry_placed es (free_entry_place es) e
 
 -- the same of the table's bytes
-unfoldable pub entry_put_at : List ℕ → Found → Entry → List ℕ
-entry_put_at t (At k) e = entry_put t k e
-entry_put_at t Missing e = t
+unfoldable pub entry_put_at : List ℕ → Option ℕ → Entry → List ℕ
+entry_put_at t (Some k) e = entry_put t k e
+entry_put_at t None e = t
 
 abbrev pub added_entry : List ℕ → Entry → List ℕ
 added_entry t e = entry_put_at t (free_entry_place (entries_of t)) e
 
 -- the table `u` is `t` with the entry added, at the place answered
-pub record AddEntry (t : List ℕ) (e : Entry) (f : Found) (u : List ℕ) : Type 0 where
+pub record AddEntry (t : List ℕ) (e : Entry) (f : Option ℕ) (u : List ℕ) : Type 0 where
   pub bytes : u ≡ added_entry t e
   pub place : f ≡ free_entry_place (entries_of t)
   pub entries : entries_of u ≡ entry_added (entries_of t) e
@@ -53,23 +51,23 @@ numbered i r =
       content = r.content;
     }
 
-unfoldable pub record_placed : List Record → Found → Record → List Record
-record_placed rs (At i) r = with_record rs i (numbered i r)
-record_placed rs Missing r = rs
+unfoldable pub record_placed : List Record → Option ℕ → Record → List Record
+record_placed rs (Some i) r = with_record rs i (numbered i r)
+record_placed rs None r = rs
 
 abbrev pub record_added : List Record → Record → List Record
 record_added rs r = record_placed rs (free_record_place rs) r
 
 -- the same of the table's bytes
-unfoldable pub record_put_at : List ℕ → Found → Record → List ℕ
-record_put_at t (At i) r = record_put t i (numbered i r)
-record_put_at t Missing r = t
+unfoldable pub record_put_at : List ℕ → Option ℕ → Record → List ℕ
+record_put_at t (Some i) r = record_put t i (numbered i r)
+record_put_at t None r = t
 
 abbrev pub added_record : List ℕ → Record → List ℕ
 added_record t r = record_put_at t (free_record_place (records_of t)) r
 
 -- the table `u` is `t` with the record added, its number being the place answered
-pub record AddRecord (t : List ℕ) (r : Record) (f : Found) (u : List ℕ) : Type 0 where
+pub record AddRecord (t : List ℕ) (r : Record) (f : Option ℕ) (u : List ℕ) : Type 0 where
   pub bytes : u ≡ added_record t r
   pub place : f ≡ free_record_place (records_of t)
   pub records : records_of u ≡ record_added (records_of t) r

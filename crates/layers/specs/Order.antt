@@ -1,30 +1,28 @@
 -- Names in byte order, each once; and places in the order of what they stand for. Assumes nothing.
-use Rattle.std.specs.Prelude.{ℕ, suc, ◌-◌, List, [], ◌∷◌, ◌++◌, cond, eqb, leb, ltb, length, take, drop}
+use Rattle.std.specs.Prelude.{ℕ, suc, ◌-◌, List, [], ◌∷◌, ◌++◌, cond, eqb, leb, ltb, length, take, drop, Option, Some, None}
+use Rattle.std.specs.declared.cmp.Ordering.{Ordering}
+use Rattle.std.specs.declared.cmp.Ordering.TheVariants.{Less, Equal, Greater}
 use Rattle.layers.specs.Bytes.{part}
 use Rattle.layers.specs.Names.{Name, order_of}
-use Rattle.layers.specs.declared.names.Order.{Order}
-use Rattle.layers.specs.declared.names.Order.TheVariants.{Before, Same, After}
-use Rattle.layers.specs.declared.spots.Spot.{Spot}
-use Rattle.layers.specs.declared.spots.Spot.TheVariants.{Free, Taken}
 
-unfoldable pub insert_step : {A : Type 0} → Order → A → A → List A → List A → List A
-insert_step Before x y ys zs = x ∷ y ∷ ys
-insert_step Same x y ys zs = y ∷ ys
-insert_step After x y ys zs = y ∷ zs
+unfoldable pub insert_step : {A : Type 0} → Ordering → A → A → List A → List A → List A
+insert_step Less x y ys zs = x ∷ y ∷ ys
+insert_step Equal x y ys zs = y ∷ ys
+insert_step Greater x y ys zs = y ∷ zs
 
 -- `x` put into a list in byte order of names, where its name does not stand there yet
 unfoldable pub insert_by : {A : Type 0} → (A → Name) → A → List A → List A
 insert_by f x [] = x ∷ []
 insert_by f x (y ∷ ys) = insert_step (order_of (f x) (f y)) x y ys (insert_by f x ys)
 
-unfoldable pub spot_step : Order → ℕ → Spot → Spot
-spot_step Before k s = Free k
-spot_step Same k s = Taken
-spot_step After k s = s
+unfoldable pub spot_step : Ordering → ℕ → Option ℕ → Option ℕ
+spot_step Less k s = Some k
+spot_step Equal k s = None
+spot_step Greater k s = s
 
 -- where `x` belongs among `ys`, which stand from `k` on
-unfoldable pub spot_from : {A : Type 0} → (A → Name) → ℕ → Name → List A → Spot
-spot_from f k x [] = Free k
+unfoldable pub spot_from : {A : Type 0} → (A → Name) → ℕ → Name → List A → Option ℕ
+spot_from f k x [] = Some k
 spot_from f k x (y ∷ ys) = spot_step (order_of x (f y)) k (spot_from f (suc k) x ys)
 
 -- `q` at place `i` of the first `n`, those from `i` on moved down by one

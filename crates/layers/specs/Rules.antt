@@ -1,5 +1,5 @@
 -- The table rules of document 01 and of docs/ABI.md, each said without computation, and beside it the test that decides it. Assumes nothing.
-use Rattle.std.specs.Prelude.{◌≡◌, ℕ, zero, suc, ◌≤◌, ◌<◌, Bool, true, false, not, cond, List, [], ◌∷◌, eqb, ltb, leb, length, take, drop, get_or, replicate}
+use Rattle.std.specs.Prelude.{◌≡◌, ℕ, zero, suc, ◌≤◌, ◌<◌, Bool, true, false, not, cond, List, [], ◌∷◌, eqb, ltb, leb, length, take, drop, get_or, replicate, Option, Some, None, is_some}
 use Rattle.layers.specs.Names.{Name, same_name, malformed_name}
 use Rattle.layers.specs.Kinds.{kind_number, kind_of}
 use Rattle.layers.specs.Items.{records_of, entries_of, record_at, entry_at, free_record, free_entry}
@@ -7,9 +7,6 @@ use Rattle.layers.specs.Search.{name_of, names_record, naming, search_of}
 use Rattle.layers.specs.declared.items.Record.{Record}
 use Rattle.layers.specs.declared.items.Entry.{Entry}
 use Rattle.layers.specs.declared.kinds.Kind.{Kind}
-use Rattle.layers.specs.declared.kinds.Kind.TheVariants.{Fifo, Character, Directory, Block, Regular, Symlink, Socket, NoKind}
-use Rattle.layers.specs.declared.search.Found.{Found}
-use Rattle.layers.specs.declared.search.Found.TheVariants.{At, Missing}
 
 -- the test is true exactly where the rule holds
 pub record Exactly (test : Bool) (rule : Type 0) : Type 0 where
@@ -57,20 +54,10 @@ number_test i r = eqb r.number i
 
 -- "Kinds: regular, directory, symlink, character device, block device, fifo, socket."
 abbrev pub HasKind : Record → Type 0
-HasKind r = (r.number ≡ 0 → ⊥) → (k : Kind) × (k ≡ NoKind → ⊥) × (r.kind ≡ kind_number k)
-
-unfoldable pub is_kind : Kind → Bool
-is_kind Fifo = true
-is_kind Character = true
-is_kind Directory = true
-is_kind Block = true
-is_kind Regular = true
-is_kind Symlink = true
-is_kind Socket = true
-is_kind NoKind = false
+HasKind r = (r.number ≡ 0 → ⊥) → (k : Kind) × (r.kind ≡ kind_number k)
 
 abbrev pub kind_test : ℕ → Bool
-kind_test n = is_kind (kind_of n)
+kind_test n = is_some (kind_of n)
 
 -- "permissions 0 to 4095"
 abbrev pub PermissionsFit : Record → Type 0
@@ -305,9 +292,9 @@ reach_test es i r = cond (eqb r.kind 4) (climbs 16 es i) true
 abbrev pub NamesAreDistinct : List Entry → Type 0
 NamesAreDistinct es = (i j : ℕ) → Used es i → Used es j → (entry_at es i).parent ≡ (entry_at es j).parent → name_of (entry_at es i) ≡ name_of (entry_at es j) → i ≡ j
 
-unfoldable pub is_place : ℕ → Found → Bool
-is_place j (At k) = eqb k j
-is_place j Missing = false
+unfoldable pub is_place : ℕ → Option ℕ → Bool
+is_place j (Some k) = eqb k j
+is_place j None = false
 
 -- a search for the entry's parent and name finds the entry itself
 unfoldable pub once_test : List Entry → ℕ → Entry → Bool

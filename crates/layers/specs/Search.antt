@@ -1,15 +1,13 @@
 -- The search of one layer for a parent and a name; free places; counts. Assumes nothing.
-use Rattle.std.specs.Prelude.{ℕ, suc, ◌+◌, Bool, false, not, cond, List, [], ◌∷◌, eqb, take}
+use Rattle.std.specs.Prelude.{ℕ, suc, ◌+◌, Bool, false, not, cond, List, [], ◌∷◌, eqb, take, Option, Some, None}
 use Rattle.layers.specs.Names.{Name, same_name}
 use Rattle.layers.specs.declared.items.Record.{Record}
 use Rattle.layers.specs.declared.items.Entry.{Entry}
-use Rattle.layers.specs.declared.search.Found.{Found}
-use Rattle.layers.specs.declared.search.Found.TheVariants.{At, Missing}
 
 -- the first place from `k` on, `xs` standing there, whose item passes the test
-unfoldable pub first_from : {A : Type 0} → (A → Bool) → ℕ → List A → Found
-first_from p k [] = Missing
-first_from p k (x ∷ xs) = cond (p x) (At k) (first_from p (suc k) xs)
+unfoldable pub first_from : {A : Type 0} → (A → Bool) → ℕ → List A → Option ℕ
+first_from p k [] = None
+first_from p k (x ∷ xs) = cond (p x) (Some k) (first_from p (suc k) xs)
 
 -- 1 for a test that is passed
 unfoldable pub one : Bool → ℕ
@@ -41,14 +39,14 @@ unfoldable pub names_record : ℕ → Entry → Bool
 names_record r e = cond (eqb e.parent 0) false (eqb e.child r)
 
 -- the place that names `x` in `d`
-abbrev pub search_of : List Entry → ℕ → Name → Found
+abbrev pub search_of : List Entry → ℕ → Name → Option ℕ
 search_of es d x = first_from (names d x) 0 es
 
 -- "Each new record and entry takes the lowest free place."
-abbrev pub free_entry_place : List Entry → Found
+abbrev pub free_entry_place : List Entry → Option ℕ
 free_entry_place es = first_from is_free 0 es
 
-abbrev pub free_record_place : List Record → Found
+abbrev pub free_record_place : List Record → Option ℕ
 free_record_place rs = first_from no_record 1 rs
 
 abbrev pub used_entries : List Entry → ℕ
@@ -62,5 +60,5 @@ abbrev pub naming : ℕ → List Entry → ℕ
 naming r es = count_if (names_record r) es
 
 -- the first entry that names the record `r`
-abbrev pub naming_place : ℕ → List Entry → Found
+abbrev pub naming_place : ℕ → List Entry → Option ℕ
 naming_place r es = first_from (names_record r) 0 es

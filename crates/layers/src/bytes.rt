@@ -1,151 +1,20 @@
 // Bytes in lent memory: numbers little-endian, and one run laid over another.
-ghost use Rattle.std.specs.Prelude.{◌≡◌, ◌+◌, ◌*◌, ◌≤◌, ◌<◌, length, take};
+ghost use Rattle.std.specs.Prelude.{◌≡◌, ℕ, ◌+◌, ◌^◌, ◌≤◌, ◌<◌, length, take};
 ghost use Rattle.layers.specs.Bytes.{least, part, over, le_of, be_of, le_bytes, number_at, laid};
-
-// A byte as a number to count with.
-pub fn wide(x: u8) -> usize
-    ensures { (result ≡ x) × (result < 256) }
-{
-    x as usize
-}
+ghost use Rattle.layers.specs.Rules.{all_zero};
 
 // `n`, or `m` where that is less.
 pub fn at_most(m: u8, n: usize) -> u8
     ensures { result ≡ least m n }
 {
-    if wide(m) < n {
-        return m;
-    }
-    n as u8
+    u8::try_from(n).map_or(m, |n| n.min(m))
 }
 
-// ---- the number that a slice starts with
-
-fn wide16(x: u8) -> u16
-    ensures { (result ≡ x) × (result < 256) }
+// Whether all bytes are 0; every byte is looked at, which compiles to reads of many bytes at once.
+pub(crate) fn all_zero(b: &[u8]) -> bool
+    ensures { result ≡ all_zero b.now }
 {
-    x as u16
-}
-
-fn wide32(x: u16) -> u32
-    ensures { (result ≡ x) × (result < 65536) }
-{
-    x as u32
-}
-
-fn wide64(x: u32) -> u64
-    ensures { (result ≡ x) × (result < 4294967296) }
-{
-    x as u64
-}
-
-fn first_u16(b: &[u8]) -> u16
-    requires { 2 ≤ length b.now }
-    ensures { result ≡ le_of (take 2 b.now) }
-{
-    wide16(b[0]) + 256 * wide16(b[1])
-}
-
-fn first_u32(b: &[u8]) -> u32
-    requires { 4 ≤ length b.now }
-    ensures { result ≡ le_of (take 4 b.now) }
-{
-    wide32(first_u16(b)) + 65536 * wide32(first_u16(&b[2..]))
-}
-
-fn first_u64(b: &[u8]) -> u64
-    requires { 8 ≤ length b.now }
-    ensures { result ≡ le_of (take 8 b.now) }
-{
-    wide64(first_u32(b)) + 4294967296 * wide64(first_u32(&b[4..]))
-}
-
-// ---- the same, the highest byte first, as names are ordered
-
-// A number with its 4 bytes turned round, which compiles to one instruction.
-fn turned(x: u32) -> u32
-    ensures { result ≡ be_of (le_bytes 4 x) }
-{
-    16777216 * (x % 256)
-        + 65536 * (x / 256 % 256)
-        + 256 * (x / 256 / 256 % 256)
-        + x / 256 / 256 / 256 % 256
-}
-
-pub(crate) fn first_be32(b: &[u8]) -> u32
-    requires { 4 ≤ length b.now }
-    ensures { result ≡ be_of (take 4 b.now) }
-{
-    turned(first_u32(b))
-}
-
-fn first_be64(b: &[u8]) -> u64
-    requires { 8 ≤ length b.now }
-    ensures { result ≡ be_of (take 8 b.now) }
-{
-    4294967296 * wide64(first_be32(b)) + wide64(first_be32(&b[4..]))
-}
-
-// ---- a number at a place of a slice that holds it, which is not tested: the caller has the bound
-
-pub fn u32_in(t: &[u8], a: usize) -> u32
-    requires { a + 4 ≤ length t.now }
-    ensures { result ≡ number_at 4 t.now a }
-{
-    first_u32(&t[a..])
-}
-
-pub fn u64_in(t: &[u8], a: usize) -> u64
-    requires { a + 8 ≤ length t.now }
-    ensures { result ≡ number_at 8 t.now a }
-{
-    first_u64(&t[a..])
-}
-
-// The same, the highest byte first.
-pub fn be64_in(t: &[u8], a: usize) -> u64
-    requires { a + 8 ≤ length t.now }
-    ensures { result ≡ be_of (part t.now a 8) }
-{
-    first_be64(&t[a..])
-}
-
-// ---- a number at any place of a slice; one that does not lie in it reads as 0
-
-pub fn u16_at(t: &[u8], a: usize) -> u16
-    ensures { result ≡ number_at 2 t.now a }
-{
-    if t.len() < 2 {
-        return 0;
-    }
-    if t.len() - 2 < a {
-        return 0;
-    }
-    first_u16(&t[a..])
-}
-
-pub fn u32_at(t: &[u8], a: usize) -> u32
-    ensures { result ≡ number_at 4 t.now a }
-{
-    if t.len() < 4 {
-        return 0;
-    }
-    if t.len() - 4 < a {
-        return 0;
-    }
-    u32_in(t, a)
-}
-
-pub fn u64_at(t: &[u8], a: usize) -> u64
-    ensures { result ≡ number_at 8 t.now a }
-{
-    if t.len() < 8 {
-        return 0;
-    }
-    if t.len() - 8 < a {
-        return 0;
-    }
-    u64_in(t, a)
+    b.iter().fold(0u8, |x, y| x | *y) == 0
 }
 
 // ---- a run laid over a slice; one that does not fit changes nothing
@@ -154,11 +23,8 @@ fn lay_inside(t: &mut [u8], a: usize, b: &[u8])
     requires { a + length b.now ≤ length t.old }
     ensures { t.new ≡ over t.old a b.now }
 {
-    let mut i = 0;
-    while i < b.len() {
-        t[a + i] = b[i];
-        i += 1;
-    }
+    let e = a + b.len();
+    t[a..e].copy_from_slice(b);
 }
 
 pub fn lay(t: &mut [u8], a: usize, b: &[u8])
@@ -173,54 +39,144 @@ pub fn lay(t: &mut [u8], a: usize, b: &[u8])
     lay_inside(t, a, b);
 }
 
-// ---- the bytes of a number
+// ---- numbers
 
-fn bytes_of_u16(x: u16) -> [u8; 2]
-    ensures { (result ≡ le_bytes 2 x) × (x < 65536) }
-{
-    [(x % 256) as u8, (x / 256 % 256) as u8]
+// A number of as many bytes as its width says.
+pub trait Number: Drop {
+    ghost width: { ℕ };
+
+    ghost value: { Self → ℕ };
+
+    fn size() -> usize
+        ensures { result ≡ width };
+
+    fn zero() -> Self
+        ensures { value result ≡ 0 };
+
+    // The number that a slice starts with.
+    fn first(b: &[u8]) -> Self
+        requires { width ≤ length b.now }
+        ensures { value result ≡ le_of (take width b.now) };
+
+    // The same, the highest byte first, as names are ordered.
+    fn first_be(b: &[u8]) -> Self
+        requires { width ≤ length b.now }
+        ensures { value result ≡ be_of (take width b.now) };
+
+    fn put(self, t: &mut [u8], a: usize)
+        ensures { (t.new ≡ laid t.old a (le_bytes width (value self))) × (value self < 256 ^ width) };
 }
 
-fn bytes_of_u32(x: u32) -> [u8; 4]
-    ensures { (result ≡ le_bytes 4 x) × (x < 4294967296) }
-{
-    [
-        (x % 256) as u8,
-        (x / 256 % 256) as u8,
-        (x / 256 / 256 % 256) as u8,
-        (x / 256 / 256 / 256 % 256) as u8,
-    ]
+impl Number for u16 {
+    ghost width = { 2 };
+
+    ghost value = { λ x. x };
+
+    fn size() -> usize {
+        2
+    }
+
+    fn zero() -> u16 {
+        0
+    }
+
+    fn first(b: &[u8]) -> u16 {
+        u16::from_le_bytes([b[0], b[1]])
+    }
+
+    fn first_be(b: &[u8]) -> u16 {
+        u16::first(b).swap_bytes()
+    }
+
+    fn put(self, t: &mut [u8], a: usize) {
+        lay(t, a, &self.to_le_bytes());
+    }
 }
 
-fn bytes_of_u64(x: u64) -> [u8; 8]
-    ensures { (result ≡ le_bytes 8 x) × (x < 18446744073709551616) }
-{
-    [
-        (x % 256) as u8,
-        (x / 256 % 256) as u8,
-        (x / 256 / 256 % 256) as u8,
-        (x / 256 / 256 / 256 % 256) as u8,
-        (x / 256 / 256 / 256 / 256 % 256) as u8,
-        (x / 256 / 256 / 256 / 256 / 256 % 256) as u8,
-        (x / 256 / 256 / 256 / 256 / 256 / 256 % 256) as u8,
-        (x / 256 / 256 / 256 / 256 / 256 / 256 / 256 % 256) as u8,
-    ]
+impl Number for u32 {
+    ghost width = { 4 };
+
+    ghost value = { λ x. x };
+
+    fn size() -> usize {
+        4
+    }
+
+    fn zero() -> u32 {
+        0
+    }
+
+    fn first(b: &[u8]) -> u32 {
+        u32::from_le_bytes([b[0], b[1], b[2], b[3]])
+    }
+
+    fn first_be(b: &[u8]) -> u32 {
+        u32::first(b).swap_bytes()
+    }
+
+    fn put(self, t: &mut [u8], a: usize) {
+        lay(t, a, &self.to_le_bytes());
+    }
 }
 
-pub fn put_u16(t: &mut [u8], a: usize, x: u16)
-    ensures { (t.new ≡ laid t.old a (le_bytes 2 x)) × (x < 65536) }
-{
-    lay(t, a, &bytes_of_u16(x));
+impl Number for u64 {
+    ghost width = { 8 };
+
+    ghost value = { λ x. x };
+
+    fn size() -> usize {
+        8
+    }
+
+    fn zero() -> u64 {
+        0
+    }
+
+    fn first(b: &[u8]) -> u64 {
+        u64::from_le_bytes([b[0], b[1], b[2], b[3], b[4], b[5], b[6], b[7]])
+    }
+
+    fn first_be(b: &[u8]) -> u64 {
+        u64::first(b).swap_bytes()
+    }
+
+    fn put(self, t: &mut [u8], a: usize) {
+        lay(t, a, &self.to_le_bytes());
+    }
 }
 
-pub fn put_u32(t: &mut [u8], a: usize, x: u32)
-    ensures { (t.new ≡ laid t.old a (le_bytes 4 x)) × (x < 4294967296) }
+// ---- a number at a place of a slice that holds it, which is not tested: the caller has the bound
+
+pub fn number_in<T: Number>(t: &[u8], a: usize) -> T
+    requires { a + T.width ≤ length t.now }
+    ensures { T.value result ≡ number_at T.width t.now a }
 {
-    lay(t, a, &bytes_of_u32(x));
+    T::first(&t[a..])
 }
 
-pub fn put_u64(t: &mut [u8], a: usize, x: u64)
-    ensures { (t.new ≡ laid t.old a (le_bytes 8 x)) × (x < 18446744073709551616) }
+// The same, the highest byte first.
+pub fn be_in<T: Number>(t: &[u8], a: usize) -> T
+    requires { a + T.width ≤ length t.now }
+    ensures { T.value result ≡ be_of (part t.now a T.width) }
 {
-    lay(t, a, &bytes_of_u64(x));
+    T::first_be(&t[a..])
+}
+
+// The number at any place of a slice; one that does not lie in it reads as 0.
+pub fn number_at<T: Number>(t: &[u8], a: usize) -> T
+    ensures { T.value result ≡ number_at T.width t.now a }
+{
+    if t.len() < T::size() {
+        return T::zero();
+    }
+    if t.len() - T::size() < a {
+        return T::zero();
+    }
+    number_in(t, a)
+}
+
+pub fn put_number<T: Number>(t: &mut [u8], a: usize, x: T)
+    ensures { (t.new ≡ laid t.old a (le_bytes T.width (T.value x))) × (T.value x < 256 ^ T.width) }
+{
+    x.put(t, a);
 }

@@ -2,8 +2,7 @@
 ghost use Rattle.std.specs.Prelude.{◌≡◌, ◌<◌, length};
 ghost use Rattle.layers.specs.Change.{entry_naming, numbered, AddEntry, AddRecord, DropEntry, FreedRecord};
 
-use crate::items::{Entry, Record};
-use crate::search::Found;
+use crate::items::{Entry, Record, Table};
 use crate::{bytes, items, names, search};
 
 // The entry that names the record `c` as `x` in the directory `d`; of a name that does not fit, 28 zeros.
@@ -21,61 +20,41 @@ pub fn entry_naming(d: u8, x: &[u8], c: u8) -> Entry
 }
 
 // Puts an entry that names a record at the lowest free place; where none is free, nothing changes.
-pub fn add_entry(t: &mut [u8], e: Entry) -> Found
-    requires { length t.old ≡ 8192 }
+pub fn add_entry(t: &mut Table, e: Entry) -> Option<usize>
     ensures { AddEntry t.old e result t.new }
 {
-    let f = search::free_entry(t);
-    let Found::At(k) = f else {
-        return Found::Missing;
-    };
+    let k = search::free_entry(t)?;
     items::put_entry(t, k, e);
-    Found::At(k)
+    Some(k)
 }
 
-fn with_number(r: Record, i: usize) -> Record
-    requires { i < 256 }
-    ensures { result ≡ numbered i r }
-{
-    Record {
-        number: i as u8,
-        kind: r.kind,
-        opaque: r.opaque,
-        mark: r.mark,
-        permissions: r.permissions,
-        links: r.links,
-        device: r.device,
-        size: r.size,
-        content: r.content,
-    }
-}
-
-// Puts a record at the lowest free place, which becomes its number; where none is free, nothing changes.
-pub fn add_record(t: &mut [u8], r: Record) -> Found
-    requires { length t.old ≡ 8192 }
+// Puts a record at the lowest free place, which becomes its number (at most 128, so the cast loses nothing); where none is free, nothing changes.
+pub fn add_record(t: &mut Table, r: Record) -> Option<usize>
     ensures { AddRecord t.old r result t.new }
 {
-    let f = search::free_record(t);
-    let Found::At(i) = f else {
-        return Found::Missing;
-    };
-    items::put_record(t, i, with_number(r, i));
-    Found::At(i)
+    let i = search::free_record(t)?;
+    items::put_record(
+        t,
+        i,
+        Record {
+            number: i as u8,
+            ..r
+        },
+    );
+    Some(i)
 }
 
 // Frees the record `c` where no entry names it.
-fn free_unnamed(t: &mut [u8], c: u8)
-    requires { length t.old ≡ 8192 }
+fn free_unnamed(t: &mut Table, c: u8)
     ensures { FreedRecord t.old c t.new }
 {
     if search::naming_entries(t, c) == 0 {
-        items::put_record(t, bytes::wide(c), items::no_record());
+        items::put_record(t, usize::from(c), items::no_record());
     }
 }
 
 // Takes the entry at place `j` away, and its record with the last entry that names it.
-pub fn drop_entry(t: &mut [u8], j: usize)
-    requires { length t.old ≡ 8192 }
+pub fn drop_entry(t: &mut Table, j: usize)
     ensures { DropEntry t.old j t.new }
 {
     if search::parent_at(t, j) == 0 {

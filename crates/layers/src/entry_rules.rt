@@ -4,70 +4,28 @@ ghost use Rattle.layers.specs.Items.{records_of, record_at};
 ghost use Rattle.layers.specs.Names.{same_name};
 ghost use Rattle.layers.specs.Rules.{all_zero, name_test, free_entry_test, entry_test, child_test, ends_test};
 
-use crate::items::Entry;
-use crate::{bytes, names, search};
+use crate::items::{Entry, Table, no_entry};
+use crate::{bytes, kinds, names, search};
 
 // ---- its fields
-
-// Whether what follows byte `k` is zeros, where what comes before it is.
-fn rest_is_zero(x: &[u8], k: usize) -> bool
-    requires { (k ≤ length x.now) × (all_zero (drop k x.now) ≡ all_zero x.now) }
-    ensures { result ≡ all_zero x.now }
-{
-    let mut i = k;
-    while i < x.len() {
-        if x[i] != 0 {
-            return false;
-        }
-        i += 1;
-    }
-    true
-}
-
-// By numbers of 8 bytes, and what is left by bytes.
-fn all_zero(x: &[u8]) -> bool
-    ensures { result ≡ all_zero x.now }
-{
-    let mut i: usize = 0;
-    while i + 8 <= x.len() {
-        if bytes::u64_at(x, i) != 0 {
-            return false;
-        }
-        i += 8;
-    }
-    rest_is_zero(x, i)
-}
 
 fn name_is_good(x: [u8; 28], n: usize) -> bool
     requires { n ≤ 28 }
     ensures { result ≡ name_test n x }
 {
-    if !all_zero(&x[n..]) {
+    if !bytes::all_zero(&x[n..]) {
         return false;
     }
     !names::malformed(&x[..n])
 }
 
-fn name_is_blank(x: [u8; 28]) -> bool
-    ensures { result ≡ same_name x (replicate 28 0) }
-{
-    names::same_name(&x, &[0u8; 28])
-}
-
 fn entry_is_blank(e: Entry) -> bool
     ensures { result ≡ free_entry_test e }
 {
-    if e.child != 0 {
-        return false;
+    e == Entry {
+        parent: e.parent,
+        ..no_entry()
     }
-    if e.length != 0 {
-        return false;
-    }
-    if e.zero != 0 {
-        return false;
-    }
-    let x = e.name;
-    name_is_blank(x)
 }
 
 // Whether the fields of the entry `e` keep the rules.
@@ -80,7 +38,7 @@ pub fn entry_is_good(e: Entry) -> bool
     if e.zero != 0 {
         return false;
     }
-    let n = bytes::wide(e.length);
+    let n = usize::from(e.length);
     if n < 1 {
         return false;
     }
@@ -93,30 +51,20 @@ pub fn entry_is_good(e: Entry) -> bool
 
 // ---- its parent and child
 
-// The kind of the record that a byte names.
-fn kind_named(t: &[u8], i: u8) -> u8
-    requires { length t.now ≡ 8192 }
-    ensures { result ≡ (record_at (records_of t.now) i).kind }
-{
-    search::kind_at(t, bytes::wide(i))
-}
-
-fn child_exists(t: &[u8], i: u8) -> bool
-    requires { length t.now ≡ 8192 }
+fn child_exists(t: &Table, i: u8) -> bool
     ensures { result ≡ child_test (records_of t.now) i }
 {
-    search::number_at(t, bytes::wide(i)) != 0
+    search::number_at(t, usize::from(i)) != 0
 }
 
 // Whether the parent is a directory and the child a record other than the root.
-pub(crate) fn ends_are_good(t: &[u8], e: Entry) -> bool
-    requires { length t.now ≡ 8192 }
+pub(crate) fn ends_are_good(t: &Table, e: Entry) -> bool
     ensures { result ≡ ends_test (records_of t.now) e }
 {
     if e.parent == 0 {
         return true;
     }
-    if kind_named(t, e.parent) != 4 {
+    if !kinds::is_directory(search::kind_at(t, usize::from(e.parent))) {
         return false;
     }
     if !child_exists(t, e.child) {

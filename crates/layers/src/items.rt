@@ -5,8 +5,11 @@ ghost use Rattle.layers.specs.Items.{record_of, entry_of, records_of, entries_of
 
 use crate::bytes;
 
+// A layer's table: 128 records, then 128 entries, 32 bytes each.
+pub type Table = [u8; 8192];
+
 // Every byte of a record's 32 is a field.
-#[derive(Clone, Copy)]
+#[derive(Clone, Copy, PartialEq, Eq, Default)]
 pub struct Record {
     pub number: u8,
     pub kind: u8,
@@ -20,7 +23,7 @@ pub struct Record {
 }
 
 // Every byte of an entry's 32 is a field.
-#[derive(Clone, Copy)]
+#[derive(Clone, Copy, PartialEq, Eq)]
 pub struct Entry {
     pub parent: u8,
     pub child: u8,
@@ -29,7 +32,7 @@ pub struct Entry {
     pub name: [u8; 28],
 }
 
-// ---- reading
+// ---- reading; records and entries share no field, bound or offset that a trait of both could say once
 
 fn record_of(b: &[u8]) -> Record
     requires { length b.now ≡ 32 }
@@ -40,11 +43,11 @@ fn record_of(b: &[u8]) -> Record
         kind: b[1],
         opaque: b[2],
         mark: b[3],
-        permissions: bytes::u16_at(b, 4),
-        links: bytes::u16_at(b, 6),
-        device: bytes::u64_at(b, 8),
-        size: bytes::u64_at(b, 16),
-        content: bytes::u64_at(b, 24),
+        permissions: bytes::number_at::<u16>(b, 4),
+        links: bytes::number_at::<u16>(b, 6),
+        device: bytes::number_at::<u64>(b, 8),
+        size: bytes::number_at::<u64>(b, 16),
+        content: bytes::number_at::<u64>(b, 24),
     }
 }
 
@@ -52,22 +55,11 @@ fn record_of(b: &[u8]) -> Record
 pub fn no_record() -> Record
     ensures { result ≡ free_record }
 {
-    Record {
-        number: 0,
-        kind: 0,
-        opaque: 0,
-        mark: 0,
-        permissions: 0,
-        links: 0,
-        device: 0,
-        size: 0,
-        content: 0,
-    }
+    Record::default()
 }
 
 // The record at place `i`; outside the table, the free one.
-pub fn record_at(t: &[u8], i: usize) -> Record
-    requires { length t.now ≡ 8192 }
+pub fn record_at(t: &Table, i: usize) -> Record
     ensures { result ≡ record_at (records_of t.now) i }
 {
     if i == 0 {
@@ -77,8 +69,7 @@ pub fn record_at(t: &[u8], i: usize) -> Record
         return no_record();
     }
     let a = 32 * (i - 1);
-    let e = a + 32;
-    record_of(&t[a..e])
+    record_of(&t[a..a + 32])
 }
 
 fn name_of(b: &[u8]) -> [u8; 28]
@@ -86,9 +77,7 @@ fn name_of(b: &[u8]) -> [u8; 28]
     ensures { result ≡ part b.now 4 28 }
 {
     let mut x = [0u8; 28];
-    let a = 4;
-    let e = 32;
-    bytes::lay(&mut x, 0, &b[a..e]);
+    bytes::lay(&mut x, 0, &b[4..32]);
     x
 }
 
@@ -115,21 +104,19 @@ pub fn no_entry() -> Entry
         child: 0,
         length: 0,
         zero: 0,
-        name: [0u8; 28],
+        name: [0; 28],
     }
 }
 
 // The entry at place `j`; outside the table, the free one.
-pub fn entry_at(t: &[u8], j: usize) -> Entry
-    requires { length t.now ≡ 8192 }
+pub fn entry_at(t: &Table, j: usize) -> Entry
     ensures { result ≡ entry_at (entries_of t.now) j }
 {
     if 127 < j {
         return no_entry();
     }
     let a = 4096 + 32 * j;
-    let e = a + 32;
-    entry_of(&t[a..e])
+    entry_of(&t[a..a + 32])
 }
 
 // ---- writing
@@ -140,22 +127,21 @@ fn lay_head(t: &mut [u8], a: usize, r: Record)
 {
     let first = [r.number, r.kind, r.opaque, r.mark];
     bytes::lay(t, a, &first);
-    bytes::put_u16(t, a + 4, r.permissions);
-    bytes::put_u16(t, a + 6, r.links);
+    bytes::put_number(t, a + 4, r.permissions);
+    bytes::put_number(t, a + 6, r.links);
 }
 
 fn lay_tail(t: &mut [u8], a: usize, r: Record)
     requires { a + 24 ≤ length t.old }
     ensures { (t.new ≡ over t.old a (tail_bytes r)) × FitsTail r }
 {
-    bytes::put_u64(t, a, r.device);
-    bytes::put_u64(t, a + 8, r.size);
-    bytes::put_u64(t, a + 16, r.content);
+    bytes::put_number(t, a, r.device);
+    bytes::put_number(t, a + 8, r.size);
+    bytes::put_number(t, a + 16, r.content);
 }
 
 // The record put at place `i`; outside the table nothing changes.
-pub fn put_record(t: &mut [u8], i: usize, r: Record)
-    requires { length t.old ≡ 8192 }
+pub fn put_record(t: &mut Table, i: usize, r: Record)
     ensures { PutRecord t.old i r t.new }
 {
     if i == 0 {
@@ -177,8 +163,7 @@ fn lay_name(t: &mut [u8], a: usize, x: [u8; 28])
 }
 
 // The entry put at place `j`; outside the table nothing changes.
-pub fn put_entry(t: &mut [u8], j: usize, e: Entry)
-    requires { length t.old ≡ 8192 }
+pub fn put_entry(t: &mut Table, j: usize, e: Entry)
     ensures { PutEntry t.old j e t.new }
 {
     if 127 < j {

@@ -4,20 +4,16 @@ ghost use Rattle.layers.specs.Items.{records_of, entries_of, entry_at, free_entr
 ghost use Rattle.layers.specs.Rules.{root_test, entries_test, valid_test};
 ghost use Rattle.layers.specs.RulesTally.{FreeFrom, entry_holds};
 
-use crate::{distinct, entry_rules, free_places, items, search, tally};
+use crate::items::Table;
+use crate::{distinct, entry_rules, free_places, items, kinds, search, tally};
 
-fn root_is_good(t: &[u8]) -> bool
-    requires { length t.now ≡ 8192 }
+fn root_is_good(t: &Table) -> bool
     ensures { result ≡ root_test (records_of t.now) }
 {
-    if search::number_at(t, 1) != 1 {
-        return false;
-    }
-    search::kind_at(t, 1) == 4
+    search::number_at(t, 1) == 1 && kinds::is_directory(search::kind_at(t, 1))
 }
 
-fn entry_holds(t: &[u8], j: usize) -> bool
-    requires { length t.now ≡ 8192 }
+fn entry_holds(t: &Table, j: usize) -> bool
     ensures { result ≡ entry_holds (records_of t.now) j (entry_at (entries_of t.now) j) }
 {
     if search::parent_at(t, j) == 0 {
@@ -30,28 +26,20 @@ fn entry_holds(t: &[u8], j: usize) -> bool
     entry_rules::ends_are_good(t, e)
 }
 
-fn entries_are_good(t: &[u8], n: usize) -> bool
-    requires { (length t.now ≡ 8192) × (n ≤ 128) × FreeFrom free_entry (entries_of t.now) n }
+fn entries_are_good(t: &Table, n: usize) -> bool
+    requires { (n ≤ 128) × FreeFrom free_entry (entries_of t.now) n }
     ensures { result ≡ entries_test (records_of t.now) (entries_of t.now) }
 {
-    let mut j: usize = 0;
-    while j < n {
-        if entry_holds(t, j) {
-            j += 1;
-        } else {
-            return false;
-        }
-    }
-    true
+    (0..n).all(|j| entry_holds(t, j))
 }
 
 // Whether every table rule holds, for any bytes of any length.
 pub fn valid(t: &[u8]) -> bool
     ensures { result ≡ valid_test t.now }
 {
-    if t.len() != 8192 {
+    let Some(t) = t.as_array::<8192>() else {
         return false;
-    }
+    };
     if !root_is_good(t) {
         return false;
     }

@@ -2,13 +2,7 @@
 ghost use Rattle.std.specs.Prelude.{◌≡◌};
 ghost use Rattle.layers.specs.Order.{put_in};
 
-// Where a name belongs among others, or that it stands there.
-#[derive(Clone, Copy)]
-pub enum Spot {
-    Free(usize),
-    Taken,
-}
-
+// A slice with its count beside it, since the clause says what any length and count do.
 // Moves the places from `i` to `n` down by one, and puts `q` at `i`; where 512 places have no room for that, nothing changes.
 pub fn put_in(p: &mut [u16], n: usize, i: usize, q: u16)
     ensures { p.new ≡ put_in p.old n i q }
@@ -22,11 +16,8 @@ pub fn put_in(p: &mut [u16], n: usize, i: usize, q: u16)
     if n < i {
         return;
     }
-    let mut k = n;
-    while i < k {
-        let h = k - 1;
-        p[k] = p[h];
-        k = h;
+    for k in (i..n).rev() {
+        p[k + 1] = p[k];
     }
     p[i] = q;
 }

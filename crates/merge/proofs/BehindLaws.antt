@@ -1,4 +1,6 @@
 -- A node put in for a name: the nodes up to it come before every later name. Assumes nothing.
+use Rattle.std.specs.Prelude.{Option, Some, None}
+use Rattle.std.specs.declared.cmp.Ordering.TheVariants.{Less, Greater}
 use mathlib.Core.Path.{◌≡◌, refl, sym, ap, ap₂, ◌∙◌, subst}
 use Prim.Native.Nat.{ℕ, zero, suc, ◌+◌, ◌%◌, ◌/◌, ◌≤◌, ◌<◌}
 use native.Mathlib.Omega.{arith}
@@ -11,9 +13,6 @@ use lib.Seq.{get_or-take, length-take-le}
 use borrow.Author.Tests.{le-ltb, ltb-true, ltb-false}
 use Rattle.layers.specs.Names.{Name, order_of}
 use Rattle.layers.specs.Sorted.{Sorted}
-use Rattle.layers.specs.declared.names.Order.TheVariants.{Before, After}
-use Rattle.layers.specs.declared.spots.Spot.{Spot}
-use Rattle.layers.specs.declared.spots.Spot.TheVariants.{Free, Taken}
 use Rattle.layers.proofs.OrderLaws.{before_trans, after_before, before_after, order_eq}
 use Rattle.layers.proofs.ItemLaws.{get_d_map}
 use Rattle.layers.proofs.Padded.{name_back}
@@ -41,7 +40,7 @@ use Rattle.merge.proofs.NamesOfPlaces.{merged_sorted, sorted_place}
 use Rattle.merge.proofs.PassedLaws.{none_passed, before_free, spot_new_number, spot_new_place}
 
 -- what comes before a name comes before a later one
-later_after : (p : ℕ) (x y z : Name) → order_of x y ≡ Before → order_of (p ∷ x) z ≡ After → order_of (p ∷ y) z ≡ After
+later_after : (p : ℕ) (x y z : Name) → order_of x y ≡ Less → order_of (p ∷ x) z ≡ Greater → order_of (p ∷ y) z ≡ Greater
 later_after p x y z h a = before_after z (p ∷ y) (before_trans z (p ∷ x) (p ∷ y) (after_before (p ∷ x) z a) (order_eq p p x y refl ∙ h))
 
 pub passed_later : (ns : List Node) (p : ℕ) (x : Name) (k : ℕ) → Passed ns p x k → PassedNext ns p x k
@@ -54,11 +53,11 @@ before_inserted d (suc m) a (x ∷ xs) zero h l = refl
 before_inserted d (suc m) a (x ∷ xs) (suc j) h l = before_inserted d m a xs j (omega arith) (omega arith)
 
 -- a node of the key `p ∷ x`, put in where it belongs
-inserted_passes : (ns : List Node) (p : ℕ) (x : Name) (j : ℕ) (m : Node) → key_of m ≡ p ∷ x → place_for ns p x ≡ Free j → j ≤ length ns → PassedNext (insert_at j m ns) p x (suc j)
+inserted_passes : (ns : List Node) (p : ℕ) (x : Name) (j : ℕ) (m : Node) → key_of m ≡ p ∷ x → place_for ns p x ≡ Some j → j ≤ length ns → PassedNext (insert_at j m ns) p x (suc j)
 inserted_passes ns p x j m e f b =
     record { next = λ y h. record { within = rw (length_insert j m ns) (omega arith); after = λ i l. go y h i l (ltb i j) refl } }
   where
-    go : (y : Name) → order_of x y ≡ Before → (i : ℕ) → i < suc j → (t : Bool) → ltb i j ≡ t → order_of (p ∷ y) (key_of (node_at (insert_at j m ns) i)) ≡ After
+    go : (y : Name) → order_of x y ≡ Less → (i : ℕ) → i < suc j → (t : Bool) → ltb i j ≡ t → order_of (p ∷ y) (key_of (node_at (insert_at j m ns) i)) ≡ Greater
     go y h i l true q =
         let g : i < j = ltb-true i j q in
         let z : 0 + i < j = omega arith in
@@ -88,13 +87,13 @@ module _ (s : List ℕ) (p : ℕ) (ps : List Pair) (w : Bool) (x : Name) (k : �
       let f : FitsNode made = (new_tidy p ps w x hx hp hn).fits in
       record { numbers = record { number_fits = omega arith; parent_fits = f.numbers.parent_fits; count_fits = f.numbers.count_fits }; arrays = record { stack_fits = f.arrays.stack_fits; name_fits = f.arrays.name_fits } }
 
-  free_passes : (j : ℕ) → new_spot s made ≡ Free j → PassedNext (nodes_of (inserted_at s given (numbered (more (head_of s))) (Free j))) p x (suc j)
+  free_passes : (j : ℕ) → new_spot s made ≡ Some j → PassedNext (nodes_of (inserted_at s given (numbered (more (head_of s))) (Some j))) p x (suc j)
   unfolding inserted_at
   free_passes j q =
-      let g : spot_for s made ≡ Free j = spot_new_place s made j q in
+      let g : spot_for s made ≡ Some j = spot_new_place s made j q in
       let e : full s ≡ false = spot_not_full s made (spot_for s made) j refl g in
       let b : j ≤ count_of s = spot_in s made (spot_for s made) j refl g in
-      let f : place_for (nodes_of s) p x ≡ Free j = ap₂ (place_for (nodes_of s)) (sym (new_parent p ps w x hx hp)) (sym (new_name p ps w x hx hp)) ∙ spot_place s made (spot_for s made) j refl g in
+      let f : place_for (nodes_of s) p x ≡ Some j = ap₂ (place_for (nodes_of s)) (sym (new_parent p ps w x hx hp)) (sym (new_name p ps w x hx hp)) ∙ spot_place s made (spot_for s made) j refl g in
       rw (nodes_inserted s j given (numbered (more (head_of s))) (given_fits (spot_new_number s made j q)) b (not_full s e) (risen_count s e))
       (inserted_passes (nodes_of s) p x j given given_key f (rw (length_nodes s) b))
 
@@ -102,9 +101,9 @@ module _ (s : List ℕ) (p : ℕ) (ps : List Pair) (w : Bool) (x : Name) (k : �
   unfolding behind inserted_at
   new_passes = go (new_spot s made) refl
     where
-      go : (f : Spot) → new_spot s made ≡ f → PassedNext (nodes_of (inserted_at s given (numbered (more (head_of s))) f)) p x (behind k f)
-      go (Free j) q = free_passes j q
-      go Taken q = passed_later (nodes_of s) p x k a
+      go : (f : Option ℕ) → new_spot s made ≡ f → PassedNext (nodes_of (inserted_at s given (numbered (more (head_of s))) f)) p x (behind k f)
+      go (Some j) q = free_passes j q
+      go None q = passed_later (nodes_of s) p x k a
 
 -- as the code has it
 pub added_passes : (u l s s' : List ℕ) (p : ℕ) (qs : List Pair) (x : Name) (k r : ℕ) (st : Stack) (n : Node) → length x ≤ 28 → p < 4294967296 → Passed (nodes_of s) p x k

@@ -1,22 +1,19 @@
 -- A node changed, put in and taken out: the bytes that the code leaves. Assumes nothing.
-use mathlib.Core.Path.{◌≡◌, refl, sym, ap, ap₂, ◌∙◌}
-use Prim.Native.Nat.{ℕ, zero, suc, ◌+◌, ◌*◌, ◌-◌, ◌≤◌, ◌<◌}
+use Rattle.std.specs.Prelude.{Option, Some, None}
+use Rattle.std.specs.declared.cmp.Ordering.{Ordering}
+use Rattle.std.specs.declared.cmp.Ordering.TheVariants.{Less, Equal, Greater}
+use mathlib.Core.Path.{◌≡◌, refl, sym, ap, ◌∙◌}
+use Prim.Native.Nat.{ℕ, suc, ◌+◌, ◌*◌, ◌-◌, ◌≤◌, ◌<◌}
 use native.Mathlib.Omega.{arith}
-use native.Mathlib.Nat.{sub-zero, zero-add}
 use mathlib.Core.Bool.{Bool, true, false, cond}
 use mathlib.Core.List.{List, [], ◌∷◌, ◌++◌}
-use lib.ListN.{length, take, drop, get_or, set, replicate, length-take, length-drop, length-replicate}
-use lib.Seq.{take_all, paste}
+use lib.ListN.{length, replicate, length-take, length-drop}
 use borrow.Author.Tests.{lt-ltb, le-ltb, leb-false}
 use Rattle.layers.specs.Bytes.{part, over, laid}
 use Rattle.layers.specs.Names.{Name, order_of}
 use Rattle.layers.specs.Order.{spot_from, spot_step}
-use Rattle.layers.specs.declared.names.Order.{Order}
-use Rattle.layers.specs.declared.names.Order.TheVariants.{Before, Same, After}
-use Rattle.layers.specs.declared.spots.Spot.{Spot}
-use Rattle.layers.specs.declared.spots.Spot.TheVariants.{Free, Taken}
 use Rattle.layers.proofs.Numbers.{laid_in}
-use Rattle.layers.proofs.Runs.{length_over, pasted, pasted_all, over_all}
+use Rattle.layers.proofs.Runs.{length_over}
 use Rattle.layers.proofs.ItemLaws.{laid_next}
 use Rattle.layers.proofs.Moves.{over_before}
 use Rattle.merge.specs.declared.node.Node.{Node}
@@ -25,71 +22,35 @@ use Rattle.merge.specs.Nodes.{node_bytes, node_name, key_of, capacity, count_of,
 use Rattle.merge.specs.Methods.{with_number}
 use Rattle.merge.specs.Heads.{next_of, head_of, with_head, more, fewer, numbered, full}
 use Rattle.merge.specs.State.{place_for}
-use Rattle.merge.specs.Changes.{put_bytes, inserted_bytes, taken_bytes, spot_for, inserted_at, put_in_bytes, new_spot, given, new_number, new_bytes}
+use Rattle.merge.specs.Changes.{inserted_bytes, taken_bytes, spot_for, inserted_at, put_in_bytes, new_spot, given, new_number, new_bytes}
 use Rattle.merge.proofs.NodeLaws.{length_node}
 use Rattle.merge.proofs.HeadLaws.{nodes_fit, capacity_fits}
 use Rattle.merge.proofs.StateLaws.{length_nodes}
 
--- ---- every byte 0
-
-zero_at : (n i : ℕ) → ◌≡◌ {A = ℕ} (get_or (replicate n 0) i 0) 0
-zero_at zero i = refl
-zero_at (suc n) zero = refl
-zero_at (suc n) (suc i) = zero_at n i
-
-module _ (t t₀ : List ℕ) (i : ℕ) (e : t ≡ paste t₀ 0 (replicate (length t₀) 0) i) (m : length t ≡ length t₀) where
-  pub cleared : i < length t → set t i 0 ≡ paste t₀ 0 (replicate (length t₀) 0) (i + 1)
-  cleared h =
-      let l : length {A = ℕ} (replicate (length t₀) 0) ≡ length t₀ = length-replicate (length t₀) 0 in
-      ap₂ (λ (j v : ℕ). set t j v) (sym (zero-add i)) (sym (zero_at (length t₀) i)) ∙ pasted t t₀ 0 (replicate (length t₀) 0) i e (omega arith) (omega arith)
-
-  pub cleared_all : i ≤ length t₀ → length t ≤ i → t ≡ replicate (length t₀) 0
-  cleared_all h g =
-      let l : length {A = ℕ} (replicate (length t₀) 0) ≡ length t₀ = length-replicate (length t₀) 0 in
-      over_all t₀ (replicate (length t₀) 0) t (sym l) (pasted_all t t₀ 0 (replicate (length t₀) 0) i e (omega arith) (omega arith))
-
--- ---- a node changed
-
-module _ (s : List ℕ) (j c : ℕ) (n : Node) (q : c ≡ count_of s) where
-  pub put_past : c ≤ j → s ≡ put_bytes s j n
-  unfolding put_bytes
-  put_past h = rw (← q, le-ltb j c h) refl
-
-  pub put_here : (u : List ℕ) → j < c → u ≡ over s (12 + 52 * j) (node_bytes n) → u ≡ put_bytes s j n
-  unfolding put_bytes
-  put_here u h e = rw (← q, lt-ltb j c h) e
-
 -- ---- the place of a new node
 
-module _ (ns : List Node) (p : ℕ) (x : Name) (l n : ℕ) (r : Spot) (e : n ≡ l) where
-  pub place_long : length x ≡ 28 → 28 < n → r ≡ place_for ns p x → r ≡ place_for ns p (take l x)
-  place_long h g q = q ∙ ap (place_for ns p) (sym (take_all l x (omega arith)))
-
-  pub place_short : r ≡ place_for ns p (take (n - 0) (drop 0 x)) → r ≡ place_for ns p (take l x)
-  place_short q = q ∙ ap (λ (z : ℕ). place_for ns p (take z x)) (sub-zero n ∙ e)
-
 -- a free spot lies among the items or right behind them
-pub spot_below : {A : Type 0} (f : A → Name) (x : Name) (k : ℕ) (ys : List A) (m : ℕ) → spot_from f k x ys ≡ Free m → m ≤ k + length ys
+pub spot_below : {A : Type 0} (f : A → Name) (x : Name) (k : ℕ) (ys : List A) (m : ℕ) → spot_from f k x ys ≡ Some m → m ≤ k + length ys
 unfolding spot_from spot_step
 spot_below f x k [] m h = let z : k ≡ m = cc in omega arith
 spot_below f x k (y ∷ ys) m h = go (order_of x (f y)) h (spot_below f x (suc k) ys m)
   where
-    go : (o : Order) → spot_step o k (spot_from f (suc k) x ys) ≡ Free m → (spot_from f (suc k) x ys ≡ Free m → m ≤ suc k + length ys) → m ≤ k + length (y ∷ ys)
-    go Before h ih = let z : k ≡ m = cc in omega arith
-    go Same h ih = absurd (let z : ◌≡◌ {A = ℕ} 0 1 = cc in omega arith)
-    go After h ih = let z : m ≤ suc k + length ys = ih h in omega arith
+    go : (o : Ordering) → spot_step o k (spot_from f (suc k) x ys) ≡ Some m → (spot_from f (suc k) x ys ≡ Some m → m ≤ suc k + length ys) → m ≤ k + length (y ∷ ys)
+    go Less h ih = let z : k ≡ m = cc in omega arith
+    go Equal h ih = absurd (let z : ◌≡◌ {A = ℕ} 0 1 = cc in omega arith)
+    go Greater h ih = let z : m ≤ suc k + length ys = ih h in omega arith
 
 -- a node has a spot only where one more fits
-module _ (s : List ℕ) (n : Node) (f : Spot) (k : ℕ) (q : f ≡ spot_for s n) (h : f ≡ Free k) where
+module _ (s : List ℕ) (n : Node) (f : Option ℕ) (k : ℕ) (q : f ≡ spot_for s n) (h : f ≡ Some k) where
   pub spot_not_full : full s ≡ false
   unfolding spot_for
   spot_not_full = go (full s) (sym q ∙ h)
     where
-      go : (b : Bool) → cond b Taken (place_for (nodes_of s) n.parent (node_name n)) ≡ Free k → b ≡ false
+      go : (b : Bool) → cond b None (place_for (nodes_of s) n.parent (node_name n)) ≡ Some k → b ≡ false
       go true e = absurd (let z : ◌≡◌ {A = ℕ} 0 1 = cc in omega arith)
       go false e = refl
 
-  pub spot_place : place_for (nodes_of s) n.parent (node_name n) ≡ Free k
+  pub spot_place : place_for (nodes_of s) n.parent (node_name n) ≡ Some k
   unfolding spot_for
   spot_place = rw spot_not_full at (sym q ∙ h)
 
@@ -113,12 +74,12 @@ inserted s s₁ s₂ s₃ c k n h q g l p d f o =
     ∙ over_before s (12 + 52 * k) (node_bytes n) (part s (12 + 52 * k) (52 * (c - k))) (simp (length-take, length-drop) (omega arith))) in
     o ∙ rw (y, q) refl
 
-module _ (s : List ℕ) (n : Node) (f : Spot) (q : f ≡ spot_for s n) where
-  pub not_put_in : f ≡ Taken → s ≡ put_in_bytes s n
+module _ (s : List ℕ) (n : Node) (f : Option ℕ) (q : f ≡ spot_for s n) where
+  pub not_put_in : f ≡ None → s ≡ put_in_bytes s n
   unfolding inserted_at
   not_put_in h = rw (← q, h) refl
 
-  pub put_in_at : (k : ℕ) (g m : Head) (u : List ℕ) → f ≡ Free k → g ≡ head_of s → m ≡ more g → u ≡ inserted_bytes s k n m → u ≡ put_in_bytes s n
+  pub put_in_at : (k : ℕ) (g m : Head) (u : List ℕ) → f ≡ Some k → g ≡ head_of s → m ≡ more g → u ≡ inserted_bytes s k n m → u ≡ put_in_bytes s n
   unfolding inserted_at
   put_in_at k g m u h a b e = e ∙ rw (← q, h, b, a) refl
 
@@ -127,24 +88,24 @@ module _ (s : List ℕ) (n : Node) (f : Spot) (q : f ≡ spot_for s n) where
     unfolding new_spot
     new_spot_is = rw (← a, le-ltb 4294967295 x l) (sym q)
 
-    pub no_spot_number : f ≡ Taken → 0 ≡ new_number s n
+    pub no_spot_number : f ≡ None → 0 ≡ new_number s n
     unfolding given
     no_spot_number h = rw (new_spot_is, h) refl
 
-    pub no_spot_bytes : f ≡ Taken → s ≡ new_bytes s n
+    pub no_spot_bytes : f ≡ None → s ≡ new_bytes s n
     unfolding inserted_at
     no_spot_bytes h = rw (new_spot_is, h) refl
 
-    pub new_number_lem : (k : ℕ) → f ≡ Free k → x ≡ new_number s n
+    pub new_number_lem : (k : ℕ) → f ≡ Some k → x ≡ new_number s n
     unfolding given
     new_number_lem k h = rw (new_spot_is, h) a
 
-    pub new_bytes_lem : (k : ℕ) (g m o : Head) (w : Node) (u : List ℕ) → f ≡ Free k → g ≡ head_of s → m ≡ more g → o ≡ numbered m → w ≡ with_number n x → u ≡ inserted_bytes s k w o → u ≡ new_bytes s n
+    pub new_bytes_lem : (k : ℕ) (g m o : Head) (w : Node) (u : List ℕ) → f ≡ Some k → g ≡ head_of s → m ≡ more g → o ≡ numbered m → w ≡ with_number n x → u ≡ inserted_bytes s k w o → u ≡ new_bytes s n
     unfolding inserted_at
     new_bytes_lem k g m o w u h b c d e i = i ∙ rw (new_spot_is, h, e, d, c, b, a) refl
 
 module _ (s : List ℕ) (n : Node) (x : ℕ) (a : x ≡ next_of s) (l : 4294967295 < x) where
-  no_new_spot : new_spot s n ≡ Taken
+  no_new_spot : new_spot s n ≡ None
   unfolding new_spot
   no_new_spot = rw (← a, lt-ltb 4294967295 x l) refl
 

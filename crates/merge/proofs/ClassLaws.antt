@@ -1,9 +1,10 @@
 -- What a record is to the merge, and what a layer has under a name, as the code reads them. Assumes nothing.
+use Rattle.std.specs.Prelude.{Option, Some, None}
 use mathlib.Core.Path.{◌≡◌, refl, sym, ◌∙◌}
 use Prim.Native.Nat.{ℕ}
 use native.Mathlib.Omega.{arith}
 use mathlib.Core.Bool.{Bool, true, false, cond}
-use mathlib.Core.List.{List}
+use mathlib.Core.List.{List, []}
 use lib.Dec.{eqb}
 use lib.ListN.{length}
 use borrow.Author.Tests.{eqb-true, eq-eqb, ne_eqb}
@@ -11,13 +12,10 @@ use Rattle.layers.specs.Names.{Name}
 use Rattle.layers.specs.Items.{entries_of, records_of, entry_at, record_at}
 use Rattle.layers.specs.Search.{search_of}
 use Rattle.layers.specs.declared.items.Record.{Record}
-use Rattle.layers.specs.declared.search.Found.{Found}
-use Rattle.layers.specs.declared.search.Found.TheVariants.{At, Missing}
 use Rattle.merge.specs.Classes.{is_whiteout, is_directory, is_opaque, class_of, class_at, child_at, named, seen_of}
 use Rattle.merge.specs.Scan.{is_walked, ends_scan}
 use Rattle.merge.specs.declared.stacks.Class.{Class}
 use Rattle.merge.specs.declared.stacks.Class.TheVariants.{Whiteout, Other, Plain, Opaque}
-use Rattle.merge.specs.declared.stacks.Seen.TheVariants.{Nothing, There}
 
 -- ---- a directory that the scan walks
 
@@ -33,6 +31,21 @@ module _ (t : List ℕ) (d w : ℕ) (e : w ≡ d) where
 pub not_walked : (t : List ℕ) (d : ℕ) → (length t ≡ 8192 → ⊥) → false ≡ is_walked t d
 unfolding is_walked
 not_walked t d h = rw (ne_eqb (length t) 8192 h) refl
+
+-- no bytes have no directory
+pub unwalked : (b : List ℕ) (d : ℕ) → b ≡ [] → is_walked b d ≡ false
+unwalked b d h = sym (not_walked b d (λ e. let z : length b ≡ 0 = rw h refl in omega arith))
+
+module _ (t b : List ℕ) (d : ℕ) (t_is : t ≡ b) (r : Bool) (r_is : r ≡ is_walked t d) where
+  pub walked_told : r ≡ true → (t ≡ b) × (is_walked b d ≡ true)
+  walked_told h = (t_is, rw (← t_is) (sym r_is ∙ h))
+
+  pub unwalked_told : r ≡ false → is_walked b d ≡ false
+  unwalked_told h = rw (← t_is) (sym r_is ∙ h)
+
+-- the directory of a table that a scan walks
+pub walked_here : (b t : List ℕ) (d : ℕ) → t ≡ b → is_walked b d ≡ true → true ≡ is_walked t d
+walked_here b t d h g = rw h (sym g)
 
 module _ (t : List ℕ) (d : ℕ) (r : Bool) (r_is : r ≡ is_walked t d) where
   pub walked_long : r ≡ true → length t ≡ 8192
@@ -56,21 +69,21 @@ class_is c t d n w m e h q = q ∙ rw (h, e) refl
 -- ---- the record that a directory names
 
 module _ (t : List ℕ) (d : ℕ) (x : Name) where
-  module _ (f : Found) (p : f ≡ search_of (entries_of t) d x) where
-    pub named_none : f ≡ Missing → 0 ≡ named (entries_of t) d x
+  module _ (f : Option ℕ) (p : f ≡ search_of (entries_of t) d x) where
+    pub named_none : f ≡ None → 0 ≡ named (entries_of t) d x
     unfolding child_at
     named_none q = rw (← p, q) refl
 
-    pub named_at : (k r : ℕ) → f ≡ At k → r ≡ (entry_at (entries_of t) k).child → r ≡ named (entries_of t) d x
+    pub named_at : (k r : ℕ) → f ≡ Some k → r ≡ (entry_at (entries_of t) k).child → r ≡ named (entries_of t) d x
     unfolding child_at
     named_at k r q h = h ∙ rw (← p, q) refl
 
   module _ (n : ℕ) (n_is : n ≡ named (entries_of t) d x) where
-    pub seen_none : n ≡ 0 → Nothing ≡ seen_of t d x
+    pub seen_none : n ≡ 0 → None ≡ seen_of t d x
     unfolding seen_of
     seen_none h = rw (← n_is, h) refl
 
-    pub seen_there : (n ≡ 0 → ⊥) → (c : Class) → c ≡ class_at t d n → There c n ≡ seen_of t d x
+    pub seen_there : (n ≡ 0 → ⊥) → (c : Class) → c ≡ class_at t d n → Some (c, n) ≡ seen_of t d x
     unfolding seen_of
     seen_there h c q = rw (← n_is, ne_eqb n 0 h, q) refl
 

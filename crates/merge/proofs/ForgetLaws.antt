@@ -1,4 +1,5 @@
 -- Forget: from what the code's tests showed to what the definition answers. Assumes nothing.
+use Rattle.std.specs.Prelude.{Option, Some, None}
 use mathlib.Core.Path.{◌≡◌, refl, sym, ap, ◌∙◌}
 use Prim.Native.Nat.{ℕ, ◌≤◌, ◌<◌}
 use native.Mathlib.Omega.{arith}
@@ -8,8 +9,6 @@ use lib.Dec.{eqb, leb}
 use borrow.Author.Tests.{eq-eqb, ne_eqb, le-leb, lt-leb}
 use lib.ListN.{length, set}
 use Rattle.layers.specs.Bytes.{AllBytes}
-use Rattle.layers.specs.declared.search.Found.{Found}
-use Rattle.layers.specs.declared.search.Found.TheVariants.{At, Missing}
 use Rattle.merge.specs.declared.node.Node.{Node}
 use Rattle.merge.specs.Nodes.{nodes_of, node_at, no_node, FitsNode}
 use Rattle.merge.specs.Heads.{next_of}
@@ -25,32 +24,20 @@ use Rattle.merge.proofs.NodeFits.{node_whole, bytes_taken}
 use Rattle.merge.proofs.MethodLaws.{whole_loaded, whole_forgotten}
 use Rattle.merge.proofs.Kept.{Orderly, orderly_put, orderly_taken}
 
-module _ (s : List ℕ) (p : ℕ) (f : Found) (q : f ≡ find_number (nodes_of s) p) where
-  pub unload_none : f ≡ Missing → s ≡ unloaded s p
-  unfolding unloaded_at
-  unload_none h = rw (← q, h) refl
-
-  pub unload_at : (k : ℕ) (n m : Node) (u : List ℕ) → f ≡ At k → n ≡ node_at (nodes_of s) k → m ≡ with_loaded n 0 → u ≡ put_bytes s k m → u ≡ unloaded s p
-  unfolding unloaded_at
-  unload_at k n m u h a b c = c ∙ rw (b, a, ← q, h) refl
-
-pub removed : (s t u : List ℕ) (k p : ℕ) → t ≡ taken_bytes s k → u ≡ unloaded t p → u ≡ unloaded (taken_bytes s k) p
-removed s t u k p a b = b ∙ rw a refl
-
 pub forget_root : (s : List ℕ) (x m : ℕ) → x ≤ 1 → s ≡ forget_spec s x m
 unfolding forget_spec
 forget_root s x m h = rw (le-leb x 1 h) refl
 
-module _ (s : List ℕ) (x m : ℕ) (l : 1 < x) (f : Found) (q : f ≡ find_number (nodes_of s) x) where
+module _ (s : List ℕ) (x m : ℕ) (l : 1 < x) (f : Option ℕ) (q : f ≡ find_number (nodes_of s) x) where
   forget_is : forget_spec s x m ≡ forgotten_at s x m f
   unfolding forget_spec
   forget_is = rw (lt-leb x 1 l, ← q) refl
 
-  pub forget_unknown : f ≡ Missing → s ≡ forget_spec s x m
+  pub forget_unknown : f ≡ None → s ≡ forget_spec s x m
   unfolding forgotten_at
   forget_unknown h = rw (forget_is, h) refl
 
-  module _ (k : ℕ) (h : f ≡ At k) (a n : Node) (e : a ≡ node_at (nodes_of s) k) (g : n ≡ forgotten a m) where
+  module _ (k : ℕ) (h : f ≡ Some k) (a n : Node) (e : a ≡ node_at (nodes_of s) k) (g : n ≡ forgotten a m) where
     count_is : n.count ≡ fallen (node_at (nodes_of s) k).count m
     unfolding with_count
     count_is = rw (g, e) refl
@@ -76,13 +63,13 @@ pub ruleset forgets = (forget_root, forget_unknown, forget_falls, forget_stays, 
 
 -- ---- forget over the nodes alone
 
-unfoldable pub unloaded_nodes : List Node → Found → List Node
-unloaded_nodes ns (At k) = set ns k (with_loaded (node_at ns k) 0)
-unloaded_nodes ns Missing = ns
+unfoldable pub unloaded_nodes : List Node → Option ℕ → List Node
+unloaded_nodes ns (Some k) = set ns k (with_loaded (node_at ns k) 0)
+unloaded_nodes ns None = ns
 
-unfoldable pub forgotten_nodes : List Node → ℕ → ℕ → Found → List Node
-forgotten_nodes ns x m Missing = ns
-forgotten_nodes ns x m (At k) =
+unfoldable pub forgotten_nodes : List Node → ℕ → ℕ → Option ℕ → List Node
+forgotten_nodes ns x m None = ns
+forgotten_nodes ns x m (Some k) =
     cond (eqb (fallen (node_at ns k).count m) 0)
     (cond (has_children ns x) (set ns k (forgotten (node_at ns k) m)) (unloaded_nodes (remove_at k ns) (find_number (remove_at k ns) (node_at ns k).parent)))
     (set ns k (forgotten (node_at ns k) m))
@@ -90,10 +77,10 @@ forgotten_nodes ns x m (At k) =
 unfoldable pub forget_nodes : List Node → ℕ → ℕ → List Node
 forget_nodes ns x m = cond (leb x 1) ns (forgotten_nodes ns x m (find_number ns x))
 
-unloaded_nodes_lem : (s : List ℕ) (f : Found) → AllBytes s → nodes_of (unloaded_at s f) ≡ unloaded_nodes (nodes_of s) f
+unloaded_nodes_lem : (s : List ℕ) (f : Option ℕ) → AllBytes s → nodes_of (unloaded_at s f) ≡ unloaded_nodes (nodes_of s) f
 unfolding unloaded_at unloaded_nodes
-unloaded_nodes_lem s (At k) h = nodes_put s k (with_loaded (node_at (nodes_of s) k) 0) (whole_loaded (node_at (nodes_of s) k) (node_whole s h k) 0 (omega arith)).fits
-unloaded_nodes_lem s Missing h = refl
+unloaded_nodes_lem s (Some k) h = nodes_put s k (with_loaded (node_at (nodes_of s) k) 0) (whole_loaded (node_at (nodes_of s) k) (node_whole s h k) 0 (omega arith)).fits
+unloaded_nodes_lem s None h = refl
 
 pub nodes_forgotten : (s : List ℕ) (x m : ℕ) → AllBytes s → nodes_of (forget_spec s x m) ≡ forget_nodes (nodes_of s) x m
 unfolding forget_spec forget_nodes
@@ -112,9 +99,9 @@ nodes_forgotten s x m h = first (leb x 1)
     third k true false = gone k (node_at (nodes_of s) k).parent
     third k false b = put k
 
-    second : (f : Found) → nodes_of (forgotten_at s x m f) ≡ forgotten_nodes (nodes_of s) x m f
-    second (At k) = unfold forgotten_at forgotten_nodes in third k (eqb (fallen (node_at (nodes_of s) k).count m) 0) (has_children (nodes_of s) x)
-    second Missing = unfold forgotten_at forgotten_nodes in refl
+    second : (f : Option ℕ) → nodes_of (forgotten_at s x m f) ≡ forgotten_nodes (nodes_of s) x m f
+    second (Some k) = unfold forgotten_at forgotten_nodes in third k (eqb (fallen (node_at (nodes_of s) k).count m) 0) (has_children (nodes_of s) x)
+    second None = unfold forgotten_at forgotten_nodes in refl
 
     first : (b : Bool) → nodes_of (cond b s (forgotten_at s x m (find_number (nodes_of s) x))) ≡ cond b (nodes_of s) (forgotten_nodes (nodes_of s) x m (find_number (nodes_of s) x))
     first true = refl
@@ -122,11 +109,11 @@ nodes_forgotten s x m h = first (leb x 1)
 
 -- ---- what forget keeps
 
-orderly_unloaded : (s : List ℕ) (f : Found) → Orderly s → Orderly (unloaded_at s f)
+orderly_unloaded : (s : List ℕ) (f : Option ℕ) → Orderly s → Orderly (unloaded_at s f)
 unfolding unloaded_at
-orderly_unloaded s (At k) o =
+orderly_unloaded s (Some k) o =
     orderly_put s k (with_loaded (node_at (nodes_of s) k) 0) (whole_loaded (node_at (nodes_of s) k) (node_whole s o.bytes k) 0 (omega arith)) (unfold with_loaded in refl) o
-orderly_unloaded s Missing o = o
+orderly_unloaded s None o = o
 
 pub orderly_forgotten : (s : List ℕ) (x m : ℕ) → Orderly s → Orderly (forget_spec s x m)
 unfolding forget_spec
@@ -140,9 +127,9 @@ orderly_forgotten s x m o = first (leb x 1)
     third k true false = orderly_unloaded (taken_bytes s k) (find_number (nodes_of (taken_bytes s k)) (node_at (nodes_of s) k).parent) (orderly_taken s k o)
     third k false b = put k
 
-    second : (f : Found) → Orderly (forgotten_at s x m f)
-    second (At k) = unfold forgotten_at in third k (eqb (fallen (node_at (nodes_of s) k).count m) 0) (has_children (nodes_of s) x)
-    second Missing = unfold forgotten_at in o
+    second : (f : Option ℕ) → Orderly (forgotten_at s x m f)
+    second (Some k) = unfold forgotten_at in third k (eqb (fallen (node_at (nodes_of s) k).count m) 0) (has_children (nodes_of s) x)
+    second None = unfold forgotten_at in o
 
     first : (b : Bool) → Orderly (cond b s (forgotten_at s x m (find_number (nodes_of s) x)))
     first true = o
@@ -150,10 +137,10 @@ orderly_forgotten s x m o = first (leb x 1)
 
 -- a number and the memory's length that no change of forget touches
 module _ (f : List ℕ → ℕ) (put : (s : List ℕ) (k : ℕ) (n : Node) → FitsNode n → f (put_bytes s k n) ≡ f s) (s : List ℕ) (taken : (k : ℕ) → f (taken_bytes s k) ≡ f s) (b : AllBytes s) where
-  unloaded_same : (t : List ℕ) (g : Found) → AllBytes t → f (unloaded_at t g) ≡ f t
+  unloaded_same : (t : List ℕ) (g : Option ℕ) → AllBytes t → f (unloaded_at t g) ≡ f t
   unfolding unloaded_at
-  unloaded_same t (At k) h = put t k (with_loaded (node_at (nodes_of t) k) 0) (whole_loaded (node_at (nodes_of t) k) (node_whole t h k) 0 (omega arith)).fits
-  unloaded_same t Missing h = refl
+  unloaded_same t (Some k) h = put t k (with_loaded (node_at (nodes_of t) k) 0) (whole_loaded (node_at (nodes_of t) k) (node_whole t h k) 0 (omega arith)).fits
+  unloaded_same t None h = refl
 
   forgotten_same : (x m : ℕ) → f (forget_spec s x m) ≡ f s
   unfolding forget_spec
@@ -167,9 +154,9 @@ module _ (f : List ℕ → ℕ) (put : (s : List ℕ) (k : ℕ) (n : Node) → F
       third k true false = unloaded_same (taken_bytes s k) (find_number (nodes_of (taken_bytes s k)) (node_at (nodes_of s) k).parent) (bytes_taken s b k) ∙ taken k
       third k false d = here k
 
-      second : (g : Found) → f (forgotten_at s x m g) ≡ f s
-      second (At k) = unfold forgotten_at in third k (eqb (fallen (node_at (nodes_of s) k).count m) 0) (has_children (nodes_of s) x)
-      second Missing = unfold forgotten_at in refl
+      second : (g : Option ℕ) → f (forgotten_at s x m g) ≡ f s
+      second (Some k) = unfold forgotten_at in third k (eqb (fallen (node_at (nodes_of s) k).count m) 0) (has_children (nodes_of s) x)
+      second None = unfold forgotten_at in refl
 
       first : (c : Bool) → f (cond c s (forgotten_at s x m (find_number (nodes_of s) x))) ≡ f s
       first true = refl
@@ -183,9 +170,9 @@ pub next_forgotten : (s : List ℕ) (x m : ℕ) → AllBytes s → next_of s < 1
 next_forgotten s x m b l = forgotten_same next_of next_put s (λ k. next_taken s k l) b x m
 
 -- "end at 4294967295": a number past it is unknown, and forgetting it does nothing
-pub number_past : (s : List ℕ) (x : ℕ) → AllBytes s → 4294967295 < x → find_number (nodes_of s) x ≡ Missing
+pub number_past : (s : List ℕ) (x : ℕ) → AllBytes s → 4294967295 < x → find_number (nodes_of s) x ≡ None
 number_past s x b h =
     first_missing (is_number x) no_node 0 (nodes_of s) (λ i l. other_number x (node_at (nodes_of s) i) (λ e. let f : (node_at (nodes_of s) i).number < 4294967296 = (node_whole s b i).fits.numbers.number_fits in omega arith))
 
 pub forget_past : (s : List ℕ) (x m : ℕ) → AllBytes s → 4294967295 < x → forget_spec s x m ≡ s
-forget_past s x m b h = sym (forget_unknown s x m (omega arith) Missing (sym (number_past s x b h)) refl)
+forget_past s x m b h = sym (forget_unknown s x m (omega arith) None (sym (number_past s x b h)) refl)

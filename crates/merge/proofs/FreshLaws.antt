@@ -1,4 +1,7 @@
 -- The root's stack, walked layer by layer, and the merge afresh one step further. Assumes nothing.
+use denote.Ref.{Bor}
+use Rattle.std.specs.Prelude.{Option, Some, None, is_some}
+use Rattle.layers.proofs.EveryLaws.{no_true}
 use mathlib.Core.Path.{◌≡◌, refl, sym, ◌∙◌}
 use Prim.Native.Nat.{ℕ, zero, suc, ◌+◌, ◌-◌, ◌≤◌, ◌<◌}
 use native.Mathlib.Omega.{arith}
@@ -9,7 +12,7 @@ use lib.Dec.{eqb}
 use lib.ListN.{length}
 use borrow.Author.Tests.{eq-eqb, ne_eqb}
 use Rattle.layers.specs.Names.{Name}
-use Rattle.merge.specs.Tables.{table_of}
+use Rattle.merge.specs.Tables.{table_of, IsTable}
 use Rattle.merge.specs.Stacks.{pair, stack_of, stack_from}
 use Rattle.merge.specs.Pushes.{no_stack, push}
 use Rattle.merge.specs.Fresh.{roots_from, root_stack, fresh_from, fresh}
@@ -44,17 +47,26 @@ module _ (u l : List ℕ) (o : Stack) (k : ℕ) (q : RootsLeft u l o k) where
   unfolding roots_from push_all
   roots_end h = let z : 4 - k ≡ 0 = omega arith in sym (rw z refl) ∙ q
 
-  module _ (h : k < 4) (t : List ℕ) (w : ℕ) (t_is : t ≡ table_of u l w) (w_is : w ≡ k) where
-    step : push_all o (cond (eqb (length t) 8192) (pair k 1 ∷ roots_from u l (suc k) (4 - suc k)) (roots_from u l (suc k) (4 - suc k))) ≡ stack_from (root_stack u l) false
+  module _ (h : k < 4) (w : ℕ) (w_is : w ≡ k) (r : Option (Bor (List ℕ))) (r_is : IsTable (table_of u l w) r) where
+    step : push_all o (cond (eqb (length (table_of u l w)) 8192) (pair k 1 ∷ roots_from u l (suc k) (4 - suc k)) (roots_from u l (suc k) (4 - suc k))) ≡ stack_from (root_stack u l) false
     unfolding roots_from
-    step = let z : 4 - k ≡ suc (4 - suc k) = omega arith in rw (t_is, w_is) (sym (rw z refl) ∙ q)
+    step = let z : 4 - k ≡ suc (4 - suc k) = omega arith in rw w_is (sym (rw z refl) ∙ q)
 
-    pub roots_there : length t ≡ 8192 → (o' : Stack) → o' ≡ push o (pair k 1) → RootsLeft u l o' (k + 1)
-    unfolding push_all
-    roots_there e o' p = rw (p, add-one k) (sym (rw (eq-eqb (length t) 8192 e) refl) ∙ step)
+    table_there : (r : Option (Bor (List ℕ))) → IsTable (table_of u l w) r → is_some r ≡ true → length (table_of u l w) ≡ 8192
+    table_there (Some t) a b = a.1
+    table_there None a b = no_true b
 
-    pub roots_skip : (length t ≡ 8192 → ⊥) → RootsLeft u l o (k + 1)
-    roots_skip e = rw (add-one k) (sym (rw (ne_eqb (length t) 8192 e) refl) ∙ step)
+    table_gone : (r : Option (Bor (List ℕ))) → IsTable (table_of u l w) r → is_some r ≡ false → length (table_of u l w) ≡ 8192 → ⊥
+    table_gone (Some t) a b n = no_true (sym b)
+    table_gone None a b n = let z : length (table_of u l w) ≡ 0 = rw a refl in omega arith
+
+    module _ (b : Bool) (b_is : b ≡ is_some r) where
+      pub roots_there : b ≡ true → (o' : Stack) → o' ≡ push o (pair k 1) → RootsLeft u l o' (k + 1)
+      unfolding push_all
+      roots_there e o' p = rw (p, add-one k) (sym (rw (eq-eqb (length (table_of u l w)) 8192 (table_there r r_is (sym b_is ∙ e))) refl) ∙ step)
+
+      pub roots_skip : b ≡ false → RootsLeft u l o (k + 1)
+      roots_skip e = rw (add-one k) (sym (rw (ne_eqb (length (table_of u l w)) 8192 (table_gone r r_is (sym b_is ∙ e))) refl) ∙ step)
 
 pub ruleset roots_walk = (roots_end, roots_there, roots_skip)
 

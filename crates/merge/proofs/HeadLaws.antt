@@ -3,32 +3,16 @@ use mathlib.Core.Path.{◌≡◌, refl, sym, ◌∙◌}
 use Prim.Native.Nat.{ℕ, ◌+◌, ◌*◌, ◌-◌, ◌/◌, ◌≤◌, ◌<◌}
 use native.Mathlib.Omega.{arith}
 use mathlib.Core.List.{List}
-use lib.Dec.{leb}
 use lib.ListN.{length, length-append}
-use borrow.Author.Tests.{lt-ltb, le-ltb}
 use Rattle.layers.specs.Bytes.{least, le_bytes, number_at, laid}
 use Rattle.layers.proofs.Numbers.{length_le, laid_in, laid_short}
 use Rattle.layers.proofs.ItemLaws.{two_laid}
 use Rattle.layers.proofs.Least.{least_left, least_right}
 use Rattle.merge.specs.declared.head.Head.{Head}
 use Rattle.merge.specs.Nodes.{capacity, count_of}
-use Rattle.merge.specs.Heads.{next_of, head_of, head_bytes, with_head, room_of, full}
+use Rattle.merge.specs.Heads.{head_bytes, with_head, room_of}
 
 -- ---- how many fit
-
-pub fit_short : (s : List ℕ) → length s < 12 → 0 ≡ capacity s
-unfolding capacity
-fit_short s h = let z : (length s - 12) / 52 ≡ 0 = omega arith in rw z refl
-
-pub fit_most : (s : List ℕ) → 12 ≤ length s → 4294967295 < (length s - 12) / 52 → 4294967295 ≡ capacity s
-unfolding capacity
-fit_most s l h = rw (lt-ltb 4294967295 ((length s - 12) / 52) h) refl
-
-pub fit_all : (s : List ℕ) → 12 ≤ length s → (length s - 12) / 52 ≤ 4294967295 → (length s - 12) / 52 ≡ capacity s
-unfolding capacity
-fit_all s l h = rw (le-ltb 4294967295 ((length s - 12) / 52) h) refl
-
-pub ruleset fits = (fit_short, fit_most, fit_all)
 
 pub capacity_fits : (s : List ℕ) → 52 * capacity s ≤ length s - 12
 unfolding capacity
@@ -43,17 +27,6 @@ unfolding capacity
 capacity_same s u e = rw e refl
 
 -- ---- how many there are
-
-module _ (s : List ℕ) (room : ℕ) (q : room ≡ capacity s) (n : ℕ) (e : n ≡ number_at 4 s 8) where
-  pub count_room : room < n → room ≡ count_of s
-  unfolding count_of
-  count_room h = rw (← q, ← e, lt-ltb room n h) refl
-
-  pub count_read : n ≤ room → n ≡ count_of s
-  unfolding count_of
-  count_read h = rw (← q, ← e, le-ltb room n h) refl
-
-pub ruleset counts = (count_room, count_read)
 
 pub count_fits : (s : List ℕ) → count_of s ≤ capacity s
 unfolding count_of
@@ -70,16 +43,6 @@ pub in_memory : (s : List ℕ) (j : ℕ) → j < count_of s → 52 * j + 64 ≤ 
 in_memory s j h = omega (arith, nodes_fit s)
 
 -- ---- the head, from what the callees answer
-
-pub head_read : (s : List ℕ) (x c : ℕ) → x ≡ next_of s → c ≡ count_of s → record { next = x; count = c } ≡ head_of s
-head_read s x c p q = rw (p, q) refl
-
-pub head_changed : (x y : ℕ) (c d : ℕ) → x ≡ y → c ≡ d → ◌≡◌ {A = Head} (record { next = x; count = c }) (record { next = y; count = d })
-head_changed x y c d p q = rw (p, q) refl
-
-pub full_of : (s : List ℕ) (n c : ℕ) → n ≡ capacity s → c ≡ count_of s → leb n c ≡ full s
-unfolding full
-full_of s n c p q = rw (p, q) refl
 
 pub no_room : (s : List ℕ) (n c : ℕ) → n ≡ capacity s → c ≡ count_of s → n < c → 0 ≡ room_of s
 no_room s n c p q h = omega arith

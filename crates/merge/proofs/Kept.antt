@@ -1,4 +1,5 @@
 -- What every change of a state keeps: bytes, the order of the nodes, and zeros behind the last. Assumes nothing.
+use Rattle.std.specs.Prelude.{Option, Some, None}
 use mathlib.Core.Path.{◌≡◌, refl, sym, ap, ◌∙◌, subst}
 use Prim.Native.Nat.{ℕ, zero, suc, ◌+◌, ◌*◌, ◌-◌, ◌≤◌, ◌<◌}
 use native.Mathlib.Omega.{arith}
@@ -11,8 +12,6 @@ use borrow.Author.Tests.{le-ltb, ltb-true, ltb-false}
 use Rattle.layers.specs.Bytes.{part, over, le_of, number_at, AllBytes}
 use Rattle.layers.specs.Items.{pieces}
 use Rattle.layers.specs.Sorted.{Sorted}
-use Rattle.layers.specs.declared.spots.Spot.{Spot}
-use Rattle.layers.specs.declared.spots.Spot.TheVariants.{Free, Taken}
 use Rattle.layers.proofs.Numbers.{laid_in}
 use Rattle.layers.proofs.Runs.{drop_over_after, length_over, over_next}
 use Rattle.layers.proofs.SortLaws.{insert_sorted}
@@ -116,9 +115,9 @@ module _ (s : List ℕ) (n m : Node) (h : Head) (f : FitsNode m) (e : full s ≡
   pub blank_inserted : Blank s → Blank (inserted_at s m h (place_for (nodes_of s) n.parent (node_name n)))
   blank_inserted b = go (place_for (nodes_of s) n.parent (node_name n)) refl
     where
-      go : (f : Spot) → place_for (nodes_of s) n.parent (node_name n) ≡ f → Blank (inserted_at s m h f)
-      go (Free k) q = unfold inserted_at in blank_placed k (let z : k ≤ 0 + length (nodes_of s) = spot_below key_of (key_of n) 0 (nodes_of s) k q in omega (arith, length_nodes s)) b
-      go Taken q = unfold inserted_at in b
+      go : (f : Option ℕ) → place_for (nodes_of s) n.parent (node_name n) ≡ f → Blank (inserted_at s m h f)
+      go (Some k) q = unfold inserted_at in blank_placed k (let z : k ≤ 0 + length (nodes_of s) = spot_below key_of (key_of n) 0 (nodes_of s) k q in omega (arith, length_nodes s)) b
+      go None q = unfold inserted_at in b
 
 pub orderly_inserted : (s : List ℕ) (n m : Node) (h : Head) → Whole m → full s ≡ false → key_of m ≡ key_of n → h.count ≡ count_of s + 1 → Orderly s → Orderly (inserted_at s m h (place_for (nodes_of s) n.parent (node_name n)))
 orderly_inserted s n m h w e a c o =
@@ -142,7 +141,7 @@ module _ (s : List ℕ) (n : Node) where
   unfolding spot_for
   orderly_put_in w o = go (full s) refl
     where
-      go : (b : Bool) → full s ≡ b → Orderly (inserted_at s n (more (head_of s)) (cond b Taken (place_for (nodes_of s) n.parent (node_name n))))
+      go : (b : Bool) → full s ≡ b → Orderly (inserted_at s n (more (head_of s)) (cond b None (place_for (nodes_of s) n.parent (node_name n))))
       go true e = unfold inserted_at in o
       go false e = orderly_inserted s n n (more (head_of s)) w e refl (risen_count s e) o
 
@@ -150,7 +149,7 @@ module _ (s : List ℕ) (n : Node) where
   unfolding new_spot spot_for
   orderly_new w o = go (ltb 4294967295 (next_of s)) (full s) refl
     where
-      go : (t b : Bool) → full s ≡ b → Orderly (inserted_at s (with_number n (next_of s)) (numbered (more (head_of s))) (cond t Taken (cond b Taken (place_for (nodes_of s) n.parent (node_name n)))))
+      go : (t b : Bool) → full s ≡ b → Orderly (inserted_at s (with_number n (next_of s)) (numbered (more (head_of s))) (cond t None (cond b None (place_for (nodes_of s) n.parent (node_name n)))))
       go true b e = unfold inserted_at in o
       go false true e = unfold inserted_at in o
       go false false e = orderly_inserted s n (with_number n (next_of s)) (numbered (more (head_of s))) w e (unfold with_number in refl) (risen_count s e) o

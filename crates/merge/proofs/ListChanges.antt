@@ -1,4 +1,7 @@
 -- A list with one item put in, taken out or changed: the order, the first that passes a test, and those that do. Assumes nothing.
+use Rattle.std.specs.Prelude.{Option, Some, None, is_some}
+use Rattle.std.specs.declared.cmp.Ordering.{Ordering}
+use Rattle.std.specs.declared.cmp.Ordering.TheVariants.{Less, Equal, Greater}
 use mathlib.Core.Path.{◌≡◌, refl, sym, ap, ◌∙◌, subst}
 use Prim.Native.Nat.{ℕ, zero, suc, ◌+◌, ◌≤◌, ◌<◌}
 use native.Mathlib.Omega.{arith}
@@ -12,13 +15,9 @@ use Rattle.layers.specs.Names.{Name, order_of}
 use Rattle.layers.specs.Search.{first_from}
 use Rattle.layers.specs.Order.{insert_by, insert_step}
 use Rattle.layers.specs.Sorted.{Below, Sorted}
-use Rattle.layers.specs.declared.names.Order.{Order}
-use Rattle.layers.specs.declared.names.Order.TheVariants.{Before, Same, After}
-use Rattle.layers.specs.declared.search.Found.{Found}
-use Rattle.layers.specs.declared.search.Found.TheVariants.{At, Missing}
 use Rattle.layers.proofs.OrderLaws.{before_trans, same_one, same_self}
 use Rattle.layers.proofs.PieceMoves.{insert_at, remove_at}
-use Rattle.merge.specs.State.{is_found, those}
+use Rattle.merge.specs.State.{those}
 
 -- ---- one put in where one was taken out
 
@@ -61,14 +60,14 @@ at_shifted d (suc m) a [] j h = absurd (omega arith)
 at_shifted d (suc m) a (x ∷ xs) zero h = rw (lt-ltb 0 (suc m) (omega arith)) refl
 at_shifted d (suc m) a (x ∷ xs) (suc j) h = ap (λ (i : ℕ). get_or (x ∷ insert_at m a xs) i d) (shifted_suc m j) ∙ at_shifted d m a xs j (omega arith)
 
-unfoldable pub found_shifted : ℕ → Found → Found
-found_shifted m (At j) = At (shifted m j)
-found_shifted m Missing = Missing
+unfoldable pub found_shifted : ℕ → Option ℕ → Option ℕ
+found_shifted m (Some j) = Some (shifted m j)
+found_shifted m None = None
 
-pub is_found_shifted : (m : ℕ) (f : Found) → is_found (found_shifted m f) ≡ is_found f
-unfolding is_found found_shifted
-is_found_shifted m (At j) = refl
-is_found_shifted m Missing = refl
+pub is_found_shifted : (m : ℕ) (f : Option ℕ) → is_some (found_shifted m f) ≡ is_some f
+unfolding found_shifted
+is_found_shifted m (Some j) = refl
+is_found_shifted m None = refl
 
 -- ---- the first that passes a test
 
@@ -78,14 +77,14 @@ module _ {A : Type 0} (p : A → Bool) where
   unfolding first_from
   first_set_same d s [] k a e = refl
   first_set_same d s (x ∷ xs) zero a e = rw e refl
-  first_set_same d s (x ∷ xs) (suc k) a e = ap (λ (r : Found). cond (p x) (At s) r) (first_set_same d (suc s) xs k a e)
+  first_set_same d s (x ∷ xs) (suc k) a e = ap (λ (r : Option ℕ). cond (p x) (Some s) r) (first_set_same d (suc s) xs k a e)
 
   first_later : (m s : ℕ) (xs : List A) → m ≤ s → first_from p (suc s) xs ≡ found_shifted m (first_from p s xs)
   unfolding first_from found_shifted shifted
   first_later m s [] h = refl
   first_later m s (x ∷ xs) h = go (p x) (first_later m (suc s) xs (omega arith))
     where
-      go : (b : Bool) → first_from p (suc (suc s)) xs ≡ found_shifted m (first_from p (suc s) xs) → cond b (At (suc s)) (first_from p (suc (suc s)) xs) ≡ found_shifted m (cond b (At s) (first_from p (suc s) xs))
+      go : (b : Bool) → first_from p (suc (suc s)) xs ≡ found_shifted m (first_from p (suc s) xs) → cond b (Some (suc s)) (first_from p (suc (suc s)) xs) ≡ found_shifted m (cond b (Some s) (first_from p (suc s) xs))
       go true ih = rw (le-ltb s m h) refl
       go false ih = ih
 
@@ -97,28 +96,28 @@ module _ {A : Type 0} (p : A → Bool) where
   first_insert_other s (suc m) a (x ∷ xs) e h = go (p x) (first_insert_other (suc s) m a xs e (omega arith))
     where
       go : (b : Bool) → first_from p (suc s) (insert_at m a xs) ≡ found_shifted (suc s + m) (first_from p (suc s) xs)
-          → cond b (At s) (first_from p (suc s) (insert_at m a xs)) ≡ found_shifted (s + suc m) (cond b (At s) (first_from p (suc s) xs))
+          → cond b (Some s) (first_from p (suc s) (insert_at m a xs)) ≡ found_shifted (s + suc m) (cond b (Some s) (first_from p (suc s) xs))
       go true ih = rw (lt-ltb s (s + suc m) (omega arith)) refl
       go false ih = ih ∙ ap (λ (i : ℕ). found_shifted i (first_from p (suc s) xs)) (suc-add s m ∙ sym (add-suc s m))
 
   -- one put in that passes, where none did
-  pub first_insert_new : (s m : ℕ) (a : A) (xs : List A) → p a ≡ true → m ≤ length xs → first_from p s xs ≡ Missing → first_from p s (insert_at m a xs) ≡ At (s + m)
+  pub first_insert_new : (s m : ℕ) (a : A) (xs : List A) → p a ≡ true → m ≤ length xs → first_from p s xs ≡ None → first_from p s (insert_at m a xs) ≡ Some (s + m)
   unfolding first_from
   first_insert_new s zero a xs e h n = rw (e, add-zero s) refl
   first_insert_new s (suc m) a [] e h n = absurd (omega arith)
   first_insert_new s (suc m) a (x ∷ xs) e h n = go (p x) n (first_insert_new (suc s) m a xs e (omega arith))
     where
-      go : (b : Bool) → cond b (At s) (first_from p (suc s) xs) ≡ Missing → (first_from p (suc s) xs ≡ Missing → first_from p (suc s) (insert_at m a xs) ≡ At (suc s + m)) → cond b (At s) (first_from p (suc s) (insert_at m a xs)) ≡ At (s + suc m)
+      go : (b : Bool) → cond b (Some s) (first_from p (suc s) xs) ≡ None → (first_from p (suc s) xs ≡ None → first_from p (suc s) (insert_at m a xs) ≡ Some (suc s + m)) → cond b (Some s) (first_from p (suc s) (insert_at m a xs)) ≡ Some (s + suc m)
       go true n ih = absurd (let z : ◌≡◌ {A = ℕ} 0 1 = cc in omega arith)
-      go false n ih = ih n ∙ ap At (suc-add s m ∙ sym (add-suc s m))
+      go false n ih = ih n ∙ ap Some (suc-add s m ∙ sym (add-suc s m))
 
-  pub found_insert : (s m : ℕ) (a : A) (xs : List A) → p a ≡ true → is_found (first_from p s (insert_at m a xs)) ≡ true
-  unfolding first_from is_found
+  pub found_insert : (s m : ℕ) (a : A) (xs : List A) → p a ≡ true → is_some (first_from p s (insert_at m a xs)) ≡ true
+  unfolding first_from
   found_insert s zero a xs e = rw e refl
   found_insert s (suc m) a [] e = rw e refl
   found_insert s (suc m) a (x ∷ xs) e = go (p x) (found_insert (suc s) m a xs e)
     where
-      go : (b : Bool) → is_found (first_from p (suc s) (insert_at m a xs)) ≡ true → is_found (cond b (At s) (first_from p (suc s) (insert_at m a xs))) ≡ true
+      go : (b : Bool) → is_some (first_from p (suc s) (insert_at m a xs)) ≡ true → is_some (cond b (Some s) (first_from p (suc s) (insert_at m a xs))) ≡ true
       go true ih = refl
       go false ih = ih
 
@@ -194,26 +193,26 @@ module _ {A : Type 0} (p : A → Bool) where
       go false ih = ih
 
   -- none is found exactly where none passes
-  pub those_missing : (s : ℕ) (xs : List A) → first_from p s xs ≡ Missing → those p xs ≡ []
+  pub those_missing : (s : ℕ) (xs : List A) → first_from p s xs ≡ None → those p xs ≡ []
   unfolding those first_from
   those_missing s [] h = refl
   those_missing s (x ∷ xs) h = go (p x) h (those_missing (suc s) xs)
     where
-      go : (b : Bool) → cond b (At s) (first_from p (suc s) xs) ≡ Missing → (first_from p (suc s) xs ≡ Missing → those p xs ≡ []) → cond b (x ∷ those p xs) (those p xs) ≡ []
+      go : (b : Bool) → cond b (Some s) (first_from p (suc s) xs) ≡ None → (first_from p (suc s) xs ≡ None → those p xs ≡ []) → cond b (x ∷ those p xs) (those p xs) ≡ []
       go true e ih = absurd (let z : ◌≡◌ {A = ℕ} 0 1 = cc in omega arith)
       go false e ih = ih e
 
-  pub missing_those : (s : ℕ) (xs : List A) → length (those p xs) ≡ 0 → first_from p s xs ≡ Missing
+  pub missing_those : (s : ℕ) (xs : List A) → length (those p xs) ≡ 0 → first_from p s xs ≡ None
   unfolding those first_from
   missing_those s [] h = refl
   missing_those s (x ∷ xs) h = go (p x) h (missing_those (suc s) xs)
     where
-      go : (b : Bool) → length (cond b (x ∷ those p xs) (those p xs)) ≡ 0 → (length (those p xs) ≡ 0 → first_from p (suc s) xs ≡ Missing) → cond b (At s) (first_from p (suc s) xs) ≡ Missing
+      go : (b : Bool) → length (cond b (x ∷ those p xs) (those p xs)) ≡ 0 → (length (those p xs) ≡ 0 → first_from p (suc s) xs ≡ None) → cond b (Some s) (first_from p (suc s) xs) ≡ None
       go true e ih = absurd (omega arith)
       go false e ih = ih e
 
   -- the only one that passes, taken out
-  pub first_remove_only : (d : A) (s k : ℕ) (xs : List A) → k < length xs → p (get_or xs k d) ≡ true → length (those p xs) ≤ 1 → first_from p s (remove_at k xs) ≡ Missing
+  pub first_remove_only : (d : A) (s k : ℕ) (xs : List A) → k < length xs → p (get_or xs k d) ≡ true → length (those p xs) ≤ 1 → first_from p s (remove_at k xs) ≡ None
   first_remove_only d s k xs l h o =
       let c : suc (length (those p (remove_at k xs))) ≡ length (those p xs) = count_those_removed d k xs l h in
       missing_those s (remove_at k xs) (omega arith)
@@ -267,7 +266,7 @@ module _ {A : Type 0} (f : A → Name) where
   insert_front q [] b = refl
   insert_front q (y ∷ ys) b = rw b.0 refl
 
-  pub below_down : (x y : Name) (ys : List A) → order_of x y ≡ Before → Below f y ys → Below f x ys
+  pub below_down : (x y : Name) (ys : List A) → order_of x y ≡ Less → Below f y ys → Below f x ys
   below_down x y [] h b = tt
   below_down x y (z ∷ ys) h b = (before_trans x y (f z) h b.0, below_down x y ys h b.1)
 
@@ -277,28 +276,28 @@ module _ {A : Type 0} (f : A → Name) where
   those_insert p named q [] s e = rw e refl
   those_insert p named q (y ∷ ys) s e = go (order_of (f q) (f y)) refl (those_insert p named q ys s.1 e)
     where
-      later : (c : Bool) → order_of (f q) (f y) ≡ After → those p (insert_by f q ys) ≡ insert_by f q (those p ys) → cond c (y ∷ those p (insert_by f q ys)) (those p (insert_by f q ys)) ≡ insert_by f q (cond c (y ∷ those p ys) (those p ys))
+      later : (c : Bool) → order_of (f q) (f y) ≡ Greater → those p (insert_by f q ys) ≡ insert_by f q (those p ys) → cond c (y ∷ those p (insert_by f q ys)) (those p (insert_by f q ys)) ≡ insert_by f q (cond c (y ∷ those p ys) (those p ys))
       later true o ih = rw o (ap (λ (r : List A). y ∷ r) ih)
       later false o ih = ih
 
-      go : (o : Order) → order_of (f q) (f y) ≡ o → those p (insert_by f q ys) ≡ insert_by f q (those p ys) → those p (insert_step o q y ys (insert_by f q ys)) ≡ insert_by f q (those p (y ∷ ys))
-      go Before o ih =
+      go : (o : Ordering) → order_of (f q) (f y) ≡ o → those p (insert_by f q ys) ≡ insert_by f q (those p ys) → those p (insert_step o q y ys (insert_by f q ys)) ≡ insert_by f q (those p (y ∷ ys))
+      go Less o ih =
           rw e
           (sym (insert_front q (those p (y ∷ ys)) (below_those p (f q) (y ∷ ys) (o, below_down (f q) (f y) ys o s.0))))
-      go Same o ih =
+      go Equal o ih =
           let t : p y ≡ true = named y q (sym (same_one (f q) (f y) o)) ∙ e in
           rw (t, o) refl
-      go After o ih = later (p y) o ih
+      go Greater o ih = later (p y) o ih
 
   pub those_insert_none : (p : A → Bool) (q : A) (ys : List A) → p q ≡ false → those p (insert_by f q ys) ≡ those p ys
   unfolding those insert_by insert_step
   those_insert_none p q [] e = rw e refl
   those_insert_none p q (y ∷ ys) e = go (order_of (f q) (f y)) (those_insert_none p q ys e)
     where
-      go : (o : Order) → those p (insert_by f q ys) ≡ those p ys → those p (insert_step o q y ys (insert_by f q ys)) ≡ those p (y ∷ ys)
-      go Before ih = rw e refl
-      go Same ih = refl
-      go After ih = ap (λ (r : List A). cond (p y) (y ∷ r) r) ih
+      go : (o : Ordering) → those p (insert_by f q ys) ≡ those p ys → those p (insert_step o q y ys (insert_by f q ys)) ≡ those p (y ∷ ys)
+      go Less ih = rw e refl
+      go Equal ih = refl
+      go Greater ih = ap (λ (r : List A). cond (p y) (y ∷ r) r) ih
 
   -- a name stands once: one item at most passes a test for it
   pub below_none : (p : A → Bool) (x : Name) → ((a : A) → p a ≡ true → f a ≡ x) → (ys : List A) → Below f x ys → those p ys ≡ []
@@ -307,7 +306,7 @@ module _ {A : Type 0} (f : A → Name) where
   below_none p x named (y ∷ ys) b = go (p y) refl (below_none p x named ys b.1)
     where
       go : (c : Bool) → p y ≡ c → those p ys ≡ [] → cond c (y ∷ those p ys) (those p ys) ≡ []
-      go true e ih = absurd (let o : Same ≡ Before = sym (same_self x) ∙ (ap (order_of x) (sym (named y e)) ∙ b.0) in let z : ◌≡◌ {A = ℕ} 0 1 = cc in omega arith)
+      go true e ih = absurd (let o : Equal ≡ Less = sym (same_self x) ∙ (ap (order_of x) (sym (named y e)) ∙ b.0) in let z : ◌≡◌ {A = ℕ} 0 1 = cc in omega arith)
       go false e ih = ih
 
   pub those_one : (p : A → Bool) (x : Name) → ((a : A) → p a ≡ true → f a ≡ x) → (ys : List A) → Sorted f ys → length (those p ys) ≤ 1

@@ -1,4 +1,7 @@
 -- A load as the code runs it: the names that have no node, kept in place, and a node for each. Assumes nothing.
+use mir.Val.{bool_byte}
+use Rattle.std.specs.Prelude.{Option, Some, None, Ok, Err, is_some}
+use Rattle.merge.specs.declared.load.LoadError.TheVariants.{NoRoom}
 use mathlib.Core.Path.{◌≡◌, refl, sym, ap, ◌∙◌, subst}
 use Prim.Native.Nat.{ℕ, suc, ◌+◌, ◌≤◌, ◌<◌}
 use native.Mathlib.Omega.{arith}
@@ -10,13 +13,11 @@ use lib.ListN.{length, take, drop, get_or, set, length-take, length-set, length-
 use lib.Seq.{drop-cons, get_or-take, get_or-drop, take-suc-set, drop-set-lt, append_snoc, drop-drop, length-take-le}
 use borrow.Author.Tests.{le-leb, lt-leb}
 use Rattle.layers.specs.Names.{Name, same_name}
-use Rattle.layers.specs.Search.{first_from}
-use Rattle.layers.specs.declared.search.Found.{Found}
-use Rattle.layers.specs.declared.search.Found.TheVariants.{At, Missing}
+use Rattle.layers.specs.Search.{one, first_from}
 use Rattle.merge.specs.Nodes.{nodes_of, node_at, node_name}
 use Rattle.merge.specs.Methods.{with_loaded}
 use Rattle.merge.specs.Heads.{room_of, numbers_left}
-use Rattle.merge.specs.State.{is_child, has_parent, has_children, find_child, is_found, those}
+use Rattle.merge.specs.State.{is_child, has_parent, has_children, find_child, those}
 use Rattle.merge.specs.Changes.{put_bytes, new_bytes}
 use Rattle.merge.specs.Tables.{place_name}
 use Rattle.merge.specs.Scan.{scanned}
@@ -29,15 +30,19 @@ use Rattle.merge.proofs.TopPlaces.{All, all_at, all_those, merged_tops}
 use Rattle.merge.specs.declared.stacks.Pair.{Pair}
 use Rattle.merge.specs.declared.stacks.Stack.{Stack}
 use Rattle.merge.specs.declared.node.Node.{Node}
-use Rattle.merge.specs.declared.load.Loading.TheVariants.{Done, NoRoom}
 
-pub none_there : (ns : List Node) (p : ℕ) (x : Name) (f : Found) → f ≡ find_child ns p x → f ≡ Missing → true ≡ has_none ns p x
-unfolding has_none is_found
-none_there ns p x f q h = rw (← q, h) refl
+pub byte_one : (b : Bool) → bool_byte b ≡ one b
+unfolding one
+byte_one true = refl
+byte_one false = refl
 
-pub one_there : (ns : List Node) (p : ℕ) (x : Name) (f : Found) (k : ℕ) → f ≡ find_child ns p x → f ≡ At k → false ≡ has_none ns p x
-unfolding has_none is_found
-one_there ns p x f k q h = rw (← q, h) refl
+twice_not : (b : Bool) → b ≡ not (not b)
+twice_not true = refl
+twice_not false = refl
+
+pub none_there : (ns : List Node) (p : ℕ) (x : Name) (f : Option ℕ) (b : Bool) → f ≡ find_child ns p x → is_some f ≡ not b → b ≡ has_none ns p x
+unfolding has_none
+none_there ns p x f b q h = rw (← q, h) (twice_not b)
 
 -- ---- those that pass, kept in place: what is kept, then those of what is left
 module _ (t : ℕ → Bool) (p₀ : List ℕ) (n : ℕ) where
@@ -158,26 +163,26 @@ to_add_is u l s n w d k r p q q' f b e g kept =
       long = kept.long;
     }
   where
-    all : All (λ i. top_place u l (place_name u l i) (scanned u l (stack_list n)) ≡ At i) (take r q')
-    all = subst (λ (ps : List ℕ). All (λ i. top_place u l (place_name u l i) (scanned u l (stack_list n)) ≡ At i) ps) (sym (kept.kept ∙ ap (those (place_has_none u l (nodes_of s) w)) (f.first ∙ rw e refl)))
-        (all_those (λ i. top_place u l (place_name u l i) (scanned u l (stack_list n)) ≡ At i) (place_has_none u l (nodes_of s) w) (merged_places u l (stack_list n)) (merged_tops u l (stack_list n)))
+    all : All (λ i. top_place u l (place_name u l i) (scanned u l (stack_list n)) ≡ Some i) (take r q')
+    all = subst (λ (ps : List ℕ). All (λ i. top_place u l (place_name u l i) (scanned u l (stack_list n)) ≡ Some i) ps) (sym (kept.kept ∙ ap (those (place_has_none u l (nodes_of s) w)) (f.first ∙ rw e refl)))
+        (all_those (λ i. top_place u l (place_name u l i) (scanned u l (stack_list n)) ≡ Some i) (place_has_none u l (nodes_of s) w) (merged_places u l (stack_list n)) (merged_tops u l (stack_list n)))
 
-    tops : (j : ℕ) → j < r → top_place u l (place_name u l (get_or q' j 0)) (scanned u l (stack_list n)) ≡ At (get_or q' j 0)
+    tops : (j : ℕ) → j < r → top_place u l (place_name u l (get_or q' j 0)) (scanned u l (stack_list n)) ≡ Some (get_or q' j 0)
     tops j h =
         let z : r ≤ k = kept.within in
         let y : length q' ≡ 512 = kept.long in
-        subst (λ (i : ℕ). top_place u l (place_name u l i) (scanned u l (stack_list n)) ≡ At i) (get_or-take r q' j 0 h)
-        (all_at (λ i. top_place u l (place_name u l i) (scanned u l (stack_list n)) ≡ At i) (take r q') all j (rw (length-take-le r q' (omega arith)) h))
+        subst (λ (i : ℕ). top_place u l (place_name u l i) (scanned u l (stack_list n)) ≡ Some i) (get_or-take r q' j 0 h)
+        (all_at (λ i. top_place u l (place_name u l i) (scanned u l (stack_list n)) ≡ Some i) (take r q') all j (rw (length-take-le r q' (omega arith)) h))
 
 -- ---- below a node that has no children no name has a node
 
-no_child : (p : ℕ) (x : Name) (k : ℕ) (ns : List Node) → is_found (first_from (has_parent p) k ns) ≡ false → is_found (first_from (is_child p x) k ns) ≡ false
-unfolding first_from is_found is_child has_parent
+no_child : (p : ℕ) (x : Name) (k : ℕ) (ns : List Node) → is_some (first_from (has_parent p) k ns) ≡ false → is_some (first_from (is_child p x) k ns) ≡ false
+unfolding first_from is_child has_parent
 no_child p x k [] h = refl
 no_child p x k (n ∷ ns) h = go (eqb n.parent p) h (no_child p x (suc k) ns)
   where
-    go : (b : Bool) → is_found (cond b (At k) (first_from (has_parent p) (suc k) ns)) ≡ false → (is_found (first_from (has_parent p) (suc k) ns) ≡ false → is_found (first_from (is_child p x) (suc k) ns) ≡ false)
-        → is_found (cond (cond b (same_name (node_name n) x) false) (At k) (first_from (is_child p x) (suc k) ns)) ≡ false
+    go : (b : Bool) → is_some (cond b (Some k) (first_from (has_parent p) (suc k) ns)) ≡ false → (is_some (first_from (has_parent p) (suc k) ns) ≡ false → is_some (first_from (is_child p x) (suc k) ns) ≡ false)
+        → is_some (cond (cond b (same_name (node_name n) x) false) (Some k) (first_from (is_child p x) (suc k) ns)) ≡ false
     go true e ih = absurd (let z : ◌≡◌ {A = ℕ} 0 1 = cc in omega arith)
     go false e ih = ih e
 
@@ -199,7 +204,7 @@ to_add_all u l s n w d k p q b f h e g c z =
 
 -- ---- the load
 module _ (u l s : List ℕ) (j : ℕ) (n : Node) (at : n ≡ node_at (nodes_of s) j) (b : Bool) (is : b ≡ is_loaded n) where
-  pub loaded_before : b ≡ true → Done ≡ load_answer u l s j
+  pub loaded_before : b ≡ true → (Ok tt) ≡ load_answer u l s j
   unfolding load_node
   loaded_before h = rw (← at, ← is, h) refl
 
@@ -214,11 +219,11 @@ module _ (u l s : List ℕ) (j : ℕ) (n : Node) (at : n ≡ node_at (nodes_of s
     fits_is : r ≡ suffices s (length (to_add u l s n))
     fits_is = fits ∙ ap (suffices s) (sym count_is)
 
-    pub load_done : r ≡ true → Done ≡ load_answer u l s j
+    pub load_done : r ≡ true → (Ok tt) ≡ load_answer u l s j
     unfolding load_node
     load_done z = rw (← at, ← is, h, ← fits_is, z) refl
 
-    pub load_refused : r ≡ false → NoRoom ≡ load_answer u l s j
+    pub load_refused : r ≡ false → (Err NoRoom) ≡ load_answer u l s j
     unfolding load_node
     load_refused z = rw (← at, ← is, h, ← fits_is, z) refl
 
@@ -235,7 +240,7 @@ pub added_name : (u l s s' : List ℕ) (p : ℕ) (ps : List Pair) (x : Name) (st
 added_name u l s s' p ps x st n a b c = c ∙ rw (b, a) refl
 
 -- a place to add is the topmost of its name
-pub top_this : (u l : List ℕ) (ps : List Pair) (q : List ℕ) (m i : ℕ) (x : Name) → Topmost u l ps q m → i < m → x ≡ place_name u l (get_or q i 0) → top_place u l x (scanned u l ps) ≡ At (get_or q i 0)
+pub top_this : (u l : List ℕ) (ps : List Pair) (q : List ℕ) (m i : ℕ) (x : Name) → Topmost u l ps q m → i < m → x ≡ place_name u l (get_or q i 0) → top_place u l x (scanned u l ps) ≡ Some (get_or q i 0)
 top_this u l ps q m i x a h e = rw e (a.top i h)
 
 pub to_add_topmost : (u l s : List ℕ) (n : Node) (r : ℕ) (q : List ℕ) (d : ℕ) → ToAdd u l s n r q → d ≡ n.depth → Topmost u l (take d n.stack) q r

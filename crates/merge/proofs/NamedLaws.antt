@@ -1,4 +1,7 @@
 -- A name is among the merged names exactly where its stack is not empty. Assumes nothing.
+use Rattle.std.specs.Prelude.{Option, Some, None}
+use Rattle.std.specs.declared.cmp.Ordering.{Ordering}
+use Rattle.std.specs.declared.cmp.Ordering.TheVariants.{Less, Equal, Greater}
 use mathlib.Core.Path.{◌≡◌, refl, sym, ap, ap₂, ◌∙◌}
 use mathlib.Core.Logic.{◌≢◌}
 use Prim.Native.Nat.{ℕ, zero, suc, ◌<◌}
@@ -15,10 +18,6 @@ use Rattle.layers.specs.Items.{entries_of, entry_at, free_entry}
 use Rattle.layers.specs.Search.{name_of, names, first_from, search_of}
 use Rattle.layers.specs.Order.{insert_step, insert_by}
 use Rattle.layers.specs.declared.items.Entry.{Entry}
-use Rattle.layers.specs.declared.search.Found.{Found}
-use Rattle.layers.specs.declared.search.Found.TheVariants.{At, Missing}
-use Rattle.layers.specs.declared.names.Order.{Order}
-use Rattle.layers.specs.declared.names.Order.TheVariants.{Before, Same, After}
 use Rattle.layers.proofs.NameLaws.{same_true, same_refl}
 use Rattle.layers.proofs.OrderLaws.{same_one}
 use Rattle.layers.proofs.ChangeLaws.{first_passes}
@@ -29,8 +28,6 @@ use Rattle.merge.specs.Stacks.{Real, seen_then, collect, reals_of, later, first_
 use Rattle.merge.specs.declared.stacks.Pair.{Pair}
 use Rattle.merge.specs.declared.stacks.Class.{Class}
 use Rattle.merge.specs.declared.stacks.Class.TheVariants.{Whiteout, Other, Plain, Opaque}
-use Rattle.merge.specs.declared.stacks.Seen.{Seen}
-use Rattle.merge.specs.declared.stacks.Seen.TheVariants.{Nothing, There}
 use Rattle.merge.proofs.TableLaws.{no_parent}
 
 abbrev pub or : Bool → Bool → Bool
@@ -65,10 +62,10 @@ unfolding insert_by insert_step
 has_insert x y [] = refl
 has_insert x y (z ∷ zs) = go (order_of y z) refl (has_insert x y zs)
   where
-    go : (o : Order) → order_of y z ≡ o → has x (insert_by itself y zs) ≡ or (same_name y x) (has x zs) → has x (insert_step o y z zs (insert_by itself y zs)) ≡ or (same_name y x) (or (same_name z x) (has x zs))
-    go Before e ih = refl
-    go Same e ih = rw (same_one y z e) (or_twice (same_name z x) (has x zs))
-    go After e ih = ap (or (same_name z x)) ih ∙ or_swap (same_name z x) (same_name y x) (has x zs)
+    go : (o : Ordering) → order_of y z ≡ o → has x (insert_by itself y zs) ≡ or (same_name y x) (has x zs) → has x (insert_step o y z zs (insert_by itself y zs)) ≡ or (same_name y x) (or (same_name z x) (has x zs))
+    go Less e ih = refl
+    go Equal e ih = rw (same_one y z e) (or_twice (same_name z x) (has x zs))
+    go Greater e ih = ap (or (same_name z x)) ih ∙ or_swap (same_name z x) (same_name y x) (has x zs)
 
 has_add : (x : Name) (d : ℕ) (e : Entry) (ys : List Name) → has x (add_name d e ys) ≡ or (names d x e) (has x ys)
 unfolding add_name in_directory names
@@ -126,20 +123,20 @@ some_merge {A} c (r ∷ rs) = go (c r)
     go Plain = refl
     go Opaque = refl
 
-abbrev is_seen : Seen → Bool
-is_seen Nothing = false
-is_seen (There c n) = true
+abbrev is_seen : Option (Class × ℕ) → Bool
+is_seen None = false
+is_seen (Some (c, n)) = true
 
-abbrev is_at : Found → Bool
-is_at (At k) = true
-is_at Missing = false
+abbrev is_at : Option ℕ → Bool
+is_at (Some k) = true
+is_at None = false
 
 any_first : {A : Type 0} (p : A → Bool) (k : ℕ) (xs : List A) → is_at (first_from p k xs) ≡ any p xs
 unfolding first_from
 any_first p k [] = refl
 any_first p k (x ∷ xs) = go (p x) (any_first p (suc k) xs)
   where
-    go : (b : Bool) → is_at (first_from p (suc k) xs) ≡ any p xs → is_at (cond b (At k) (first_from p (suc k) xs)) ≡ or b (any p xs)
+    go : (b : Bool) → is_at (first_from p (suc k) xs) ≡ any p xs → is_at (cond b (Some k) (first_from p (suc k) xs)) ≡ or b (any p xs)
     go true ih = refl
     go false ih = ih
 
@@ -163,14 +160,14 @@ seen_named : (t : List ℕ) (d : ℕ) (x : Name) → ChildrenExist (entries_of t
 unfolding seen_of child_at
 seen_named t d x h = go (search_of (entries_of t) d x) refl ∙ any_first (names d x) 0 (entries_of t)
   where
-    go : (f : Found) → search_of (entries_of t) d x ≡ f → is_seen (cond (eqb (child_at (entries_of t) f) 0) Nothing (There (class_at t d (child_at (entries_of t) f)) (child_at (entries_of t) f))) ≡ is_at f
-    go (At k) e = rw (ne_eqb (entry_at (entries_of t) k).child 0 (h k (names_used d x (entry_at (entries_of t) k) (first_passes (names d x) free_entry 0 (entries_of t) k (e ∙ ap At (sym (zero-add k))))))) refl
-    go Missing e = refl
+    go : (f : Option ℕ) → search_of (entries_of t) d x ≡ f → is_seen (cond (eqb (child_at (entries_of t) f) 0) None (Some (class_at t d (child_at (entries_of t) f), child_at (entries_of t) f))) ≡ is_at f
+    go (Some k) e = rw (ne_eqb (entry_at (entries_of t) k).child 0 (h k (names_used d x (entry_at (entries_of t) k) (first_passes (names d x) free_entry 0 (entries_of t) k (e ∙ ap Some (sym (zero-add k))))))) refl
+    go None e = refl
 
-some_seen : (k : ℕ) (f : Seen) (rs : List Real) → some (seen_then k f rs) ≡ or (is_seen f) (some rs)
+some_seen : (k : ℕ) (f : Option (Class × ℕ)) (rs : List Real) → some (seen_then k f rs) ≡ or (is_seen f) (some rs)
 unfolding seen_then
-some_seen k Nothing rs = refl
-some_seen k (There c n) rs = refl
+some_seen k None rs = refl
+some_seen k (Some (c, n)) rs = refl
 
 some_collect : (u l : List ℕ) (x : Name) → ((k : ℕ) → ChildrenExist (entries_of (table_of u l k))) → (s : List Pair) → some (collect u l x s) ≡ any (named_in u l x) s
 unfolding collect

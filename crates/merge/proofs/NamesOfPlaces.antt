@@ -1,5 +1,7 @@
 -- The places that a scan collects stand for the merged names, in order. Assumes nothing.
 use mathlib.Core.Path.{◌≡◌, refl, sym, ap, ap₂, ◌∙◌, subst}
+use Rattle.std.specs.declared.cmp.Ordering.{Ordering}
+use Rattle.std.specs.declared.cmp.Ordering.TheVariants.{Less, Equal, Greater}
 use mathlib.Core.Logic.{◌≢◌}
 use Prim.Native.Nat.{ℕ, zero, suc, ◌+◌, ◌*◌, ◌/◌, ◌%◌, ◌≤◌, ◌<◌}
 use native.Mathlib.Omega.{arith}
@@ -11,8 +13,6 @@ use Rattle.layers.specs.Names.{Name, order_of}
 use Rattle.layers.specs.Items.{entries_of, entry_at}
 use Rattle.layers.specs.Search.{name_of}
 use Rattle.layers.specs.declared.items.Entry.{Entry}
-use Rattle.layers.specs.declared.names.Order.{Order}
-use Rattle.layers.specs.declared.names.Order.TheVariants.{Before, Same, After}
 use Rattle.layers.proofs.ItemLaws.{length_entries}
 use Rattle.merge.specs.Tables.{table_of, place_name}
 use Rattle.layers.specs.Order.{insert_step, insert_by}
@@ -31,10 +31,10 @@ unfolding insert_by insert_step
 map_insert f q [] = refl
 map_insert f q (p ∷ ps) = go (order_of (f q) (f p)) (map_insert f q ps)
   where
-    go : (o : Order) → map f (insert_by f q ps) ≡ insert_by itself (f q) (map f ps) → map f (insert_step o q p ps (insert_by f q ps)) ≡ insert_step o (f q) (f p) (map f ps) (insert_by itself (f q) (map f ps))
-    go Before ih = refl
-    go Same ih = refl
-    go After ih = ap (λ (l : List Name). f p ∷ l) ih
+    go : (o : Ordering) → map f (insert_by f q ps) ≡ insert_by itself (f q) (map f ps) → map f (insert_step o q p ps (insert_by f q ps)) ≡ insert_step o (f q) (f p) (map f ps) (insert_by itself (f q) (map f ps))
+    go Less ih = refl
+    go Equal ih = refl
+    go Greater ih = ap (λ (l : List Name). f p ∷ l) ih
 
 map_add : (f : ℕ → Name) (d q : ℕ) (e : Entry) (ps : List ℕ) → f q ≡ name_of e → map f (add_place f d q e ps) ≡ add_name d e (map f ps)
 unfolding add_place add_name
@@ -90,13 +90,13 @@ pub merged_sorted : (u l : List ℕ) (s : List Pair) → Sorted itself (merged_n
 unfolding merged_names
 merged_sorted u l s = names_sorted u l (scanned u l s) [] tt
 
-below_place : {A : Type 0} (f : A → Name) (z : A) (x : Name) (ys : List A) → Below f x ys → (j : ℕ) → j < length ys → order_of x (f (get_or ys j z)) ≡ Before
+below_place : {A : Type 0} (f : A → Name) (z : A) (x : Name) (ys : List A) → Below f x ys → (j : ℕ) → j < length ys → order_of x (f (get_or ys j z)) ≡ Less
 below_place f z x [] b j h = absurd (omega arith)
 below_place f z x (y ∷ ys) b zero h = b.0
 below_place f z x (y ∷ ys) b (suc j) h = below_place f z x ys b.1 j (omega arith)
 
 -- of two places the earlier has the earlier name
-pub sorted_place : {A : Type 0} (f : A → Name) (z : A) (ys : List A) → Sorted f ys → (i j : ℕ) → i < j → j < length ys → order_of (f (get_or ys i z)) (f (get_or ys j z)) ≡ Before
+pub sorted_place : {A : Type 0} (f : A → Name) (z : A) (ys : List A) → Sorted f ys → (i j : ℕ) → i < j → j < length ys → order_of (f (get_or ys i z)) (f (get_or ys j z)) ≡ Less
 sorted_place f z [] s i j h l = absurd (omega arith)
 sorted_place f z (y ∷ ys) s i zero h l = absurd (omega arith)
 sorted_place f z (y ∷ ys) s zero (suc j) h l = below_place f z (f y) ys s.0 j (omega arith)
@@ -105,7 +105,7 @@ sorted_place f z (y ∷ ys) s (suc i) (suc j) h l = sorted_place f z ys s.1 i j 
 -- so no name stands twice
 pub sorted_once : {A : Type 0} (f : A → Name) (z : A) (ys : List A) → Sorted f ys → (i j : ℕ) → i < j → j < length ys → f (get_or ys i z) ≢ f (get_or ys j z)
 sorted_once f z ys s i j h l e =
-    let w : Before ≡ Same = sym (sorted_place f z ys s i j h l) ∙ (ap (order_of (f (get_or ys i z))) (sym e) ∙ same_self (f (get_or ys i z))) in
+    let w : Less ≡ Equal = sym (sorted_place f z ys s i j h l) ∙ (ap (order_of (f (get_or ys i z))) (sym e) ∙ same_self (f (get_or ys i z))) in
     let o : ◌≡◌ {A = ℕ} 0 1 = cc in
     omega arith
 

@@ -1,4 +1,5 @@
 -- Bytes stay bytes under every change, a node read from bytes fits its fields, and its bytes are given back. Assumes nothing.
+use Rattle.std.specs.Prelude.{Option, Some, None}
 use mathlib.Core.Path.{◌≡◌, refl, sym, ap₂, ◌∙◌, subst}
 use Prim.Native.Nat.{ℕ, zero, suc, ◌+◌, ◌*◌, ◌-◌, ◌/◌, ◌%◌, ◌^◌, ◌≤◌, ◌<◌}
 use native.Mathlib.Omega.{arith}
@@ -10,8 +11,6 @@ use lib.ListN.{length, take, drop, get_or, replicate, length-take, length-drop, 
 use lib.Seq.{take_all, get_or-drop}
 use borrow.Author.Tests.{ltb-true, ltb-false}
 use Rattle.layers.specs.Bytes.{part, over, le_of, le_bytes, laid, AllBytes}
-use Rattle.layers.specs.declared.spots.Spot.{Spot}
-use Rattle.layers.specs.declared.spots.Spot.TheVariants.{Free, Taken}
 use Rattle.layers.proofs.Determined.{bytes_drop, bytes_take, parts, again}
 use Rattle.merge.specs.declared.node.Node.{Node}
 use Rattle.merge.specs.declared.head.Head.{Head}
@@ -178,12 +177,12 @@ module _ (s : List ℕ) (h : AllBytes s) where
       go true = bytes_over s (12 + 52 * j) (node_bytes n) h (bytes_node n g)
       go false = h
 
-  pub bytes_inserted : (n : Node) (d : Head) (f : Spot) → AllBytes (rest_bytes n) → AllBytes (inserted_at s n d f)
+  pub bytes_inserted : (n : Node) (d : Head) (f : Option ℕ) → AllBytes (rest_bytes n) → AllBytes (inserted_at s n d f)
   unfolding inserted_at inserted_bytes
-  bytes_inserted n d (Free k) g =
+  bytes_inserted n d (Some k) g =
       bytes_head (over s (12 + 52 * k) (node_bytes n ++ part s (12 + 52 * k) (52 * (count_of s - k)))) d
       (bytes_over s (12 + 52 * k) (node_bytes n ++ part s (12 + 52 * k) (52 * (count_of s - k))) h (bytes_append (node_bytes n) (part s (12 + 52 * k) (52 * (count_of s - k))) (bytes_node n g) (bytes_part s (12 + 52 * k) (52 * (count_of s - k)) h)))
-  bytes_inserted n d Taken g = h
+  bytes_inserted n d None g = h
 
   pub bytes_taken : (k : ℕ) → AllBytes (taken_bytes s k)
   unfolding taken_bytes

@@ -1,4 +1,5 @@
 -- A stack put together record by record is the merged stack. Assumes nothing.
+use Rattle.std.specs.Prelude.{Option}
 use mathlib.Core.Path.{◌≡◌, refl, sym, ap, ◌∙◌}
 use Prim.Native.Nat.{ℕ, suc, ◌-◌, ◌≤◌}
 use native.Mathlib.Omega.{arith}
@@ -13,7 +14,6 @@ use Rattle.merge.specs.declared.stacks.Pair.{Pair}
 use Rattle.merge.specs.declared.stacks.Stack.{Stack}
 use Rattle.merge.specs.declared.stacks.Class.{Class}
 use Rattle.merge.specs.declared.stacks.Class.TheVariants.{Whiteout, Other, Plain, Opaque}
-use Rattle.merge.specs.declared.stacks.Seen.{Seen}
 
 -- ---- one record
 
@@ -28,7 +28,7 @@ marked_later w s p h = rw (ne_eqb s.length 0 h) refl
 pub real_at : (s r : Stack) (p : Pair) (c g : Class) → c ≡ g → r ≡ with_real s p g → r ≡ with_real s p c
 real_at s r p c g e h = h ∙ ap (with_real s p) (sym e)
 
-pub seen_at : (s r : Stack) (k : ℕ) (f g : Seen) → f ≡ g → r ≡ with_seen s k g → r ≡ with_seen s k f
+pub seen_at : (s r : Stack) (k : ℕ) (f g : Option (Class × ℕ)) → f ≡ g → r ≡ with_seen s k g → r ≡ with_seen s k f
 seen_at s r k f g e h = h ∙ ap (with_seen s k) (sym e)
 
 -- ---- all the records of a name

@@ -1,4 +1,5 @@
 -- A node put in at its place: the nodes, the count, the next number and the number given. Assumes nothing.
+use Rattle.std.specs.Prelude.{Option, Some, None}
 use mathlib.Core.Path.{◌≡◌, refl, sym, ap, ◌∙◌}
 use Prim.Native.Nat.{ℕ, ◌+◌, ◌≤◌, ◌<◌}
 use native.Mathlib.Omega.{arith}
@@ -9,8 +10,6 @@ use lib.ListN.{length, take, drop}
 use borrow.Author.Tests.{lt-ltb, le-ltb}
 use Rattle.layers.specs.Names.{Name}
 use Rattle.layers.specs.Order.{insert_by, spot_from}
-use Rattle.layers.specs.declared.spots.Spot.{Spot}
-use Rattle.layers.specs.declared.spots.Spot.TheVariants.{Free, Taken}
 use Rattle.layers.proofs.PlaceLaws.{spot_inserts, taken_stays}
 use Rattle.layers.proofs.PieceMoves.{insert_at}
 use Rattle.merge.specs.declared.node.Node.{Node}
@@ -32,36 +31,36 @@ risen_count s e = let h : count_of s < capacity s = not_full s e in rw (lt-ltb (
 
 -- a node `m` of the key of `n`, put in where `n` belongs
 module _ (s : List ℕ) (n m : Node) (h : Head) (f : FitsNode m) (e : full s ≡ false) (a : key_of m ≡ key_of n) (c : h.count ≡ count_of s + 1) where
-  spot_is : (p : Spot) → place_for (nodes_of s) n.parent (node_name n) ≡ p → spot_from key_of 0 (key_of m) (nodes_of s) ≡ p
+  spot_is : (p : Option ℕ) → place_for (nodes_of s) n.parent (node_name n) ≡ p → spot_from key_of 0 (key_of m) (nodes_of s) ≡ p
   spot_is p q = ap (λ (x : Name). spot_from key_of 0 x (nodes_of s)) a ∙ q
 
-  spot_count : (k : ℕ) → place_for (nodes_of s) n.parent (node_name n) ≡ Free k → k ≤ count_of s
+  spot_count : (k : ℕ) → place_for (nodes_of s) n.parent (node_name n) ≡ Some k → k ≤ count_of s
   spot_count k q = let z : k ≤ 0 + length (nodes_of s) = spot_below key_of (key_of n) 0 (nodes_of s) k q in omega (arith, length_nodes s)
 
   pub nodes_inserted_at : nodes_of (inserted_at s m h (place_for (nodes_of s) n.parent (node_name n))) ≡ insert_by key_of m (nodes_of s)
   unfolding inserted_at
   nodes_inserted_at = go (place_for (nodes_of s) n.parent (node_name n)) refl
     where
-      go : (p : Spot) → place_for (nodes_of s) n.parent (node_name n) ≡ p → nodes_of (inserted_at s m h p) ≡ insert_by key_of m (nodes_of s)
-      go (Free k) q =
-          let t : (i : ℕ) × (k ≡ 0 + i) × (i ≤ length (nodes_of s)) × (insert_by key_of m (nodes_of s) ≡ take i (nodes_of s) ++ m ∷ drop i (nodes_of s)) = spot_inserts key_of m 0 (nodes_of s) k (spot_is (Free k) q) in
+      go : (p : Option ℕ) → place_for (nodes_of s) n.parent (node_name n) ≡ p → nodes_of (inserted_at s m h p) ≡ insert_by key_of m (nodes_of s)
+      go (Some k) q =
+          let t : (i : ℕ) × (k ≡ 0 + i) × (i ≤ length (nodes_of s)) × (insert_by key_of m (nodes_of s) ≡ take i (nodes_of s) ++ m ∷ drop i (nodes_of s)) = spot_inserts key_of m 0 (nodes_of s) k (spot_is (Some k) q) in
           let i : k ≡ t.0 = (let z : k ≡ 0 + t.0 = t.1 in omega arith) in
           nodes_inserted s k m h f (spot_count k q) (not_full s e) c ∙ (ap (λ (j : ℕ). insert_at j m (nodes_of s)) i ∙ sym t.3)
-      go Taken q = taken_stays key_of m 0 (nodes_of s) (spot_is Taken q)
+      go None q = taken_stays key_of m 0 (nodes_of s) (spot_is None q)
 
   pub length_inserted_at : length (inserted_at s m h (place_for (nodes_of s) n.parent (node_name n))) ≡ length s
   unfolding inserted_at
   length_inserted_at = go (place_for (nodes_of s) n.parent (node_name n)) refl
     where
-      go : (p : Spot) → place_for (nodes_of s) n.parent (node_name n) ≡ p → length (inserted_at s m h p) ≡ length s
-      go (Free k) q = length_inserted s k m h f (spot_count k q) (not_full s e)
-      go Taken q = refl
+      go : (p : Option ℕ) → place_for (nodes_of s) n.parent (node_name n) ≡ p → length (inserted_at s m h p) ≡ length s
+      go (Some k) q = length_inserted s k m h f (spot_count k q) (not_full s e)
+      go None q = refl
 
-  pub count_inserted_at : (k : ℕ) → place_for (nodes_of s) n.parent (node_name n) ≡ Free k → count_of (inserted_at s m h (place_for (nodes_of s) n.parent (node_name n))) ≡ count_of s + 1
+  pub count_inserted_at : (k : ℕ) → place_for (nodes_of s) n.parent (node_name n) ≡ Some k → count_of (inserted_at s m h (place_for (nodes_of s) n.parent (node_name n))) ≡ count_of s + 1
   unfolding inserted_at
   count_inserted_at k q = rw q (count_inserted s k m h f (spot_count k q) (not_full s e) c)
 
-  pub next_inserted_at : (k : ℕ) → place_for (nodes_of s) n.parent (node_name n) ≡ Free k → h.next < 18446744073709551616 → next_of (inserted_at s m h (place_for (nodes_of s) n.parent (node_name n))) ≡ h.next
+  pub next_inserted_at : (k : ℕ) → place_for (nodes_of s) n.parent (node_name n) ≡ Some k → h.next < 18446744073709551616 → next_of (inserted_at s m h (place_for (nodes_of s) n.parent (node_name n))) ≡ h.next
   unfolding inserted_at
   next_inserted_at k q l = rw q (next_inserted s k m h f (spot_count k q) (not_full s e) l)
 
@@ -82,7 +81,7 @@ module _ (s : List ℕ) (n : Node) (f : FitsNode n) (e : full s ≡ false) where
   pub length_put_in : length (put_in_bytes s n) ≡ length s
   length_put_in = ap length put_in_is ∙ length_inserted_at s n n (more (head_of s)) f e refl (risen_count s e)
 
-  module _ (k : ℕ) (q : place_for (nodes_of s) n.parent (node_name n) ≡ Free k) where
+  module _ (k : ℕ) (q : place_for (nodes_of s) n.parent (node_name n) ≡ Some k) where
     pub count_put_in : count_of (put_in_bytes s n) ≡ count_of s + 1
     count_put_in = ap count_of put_in_is ∙ count_inserted_at s n n (more (head_of s)) f e refl (risen_count s e) k q
 
@@ -95,7 +94,7 @@ pub new_full : (s : List ℕ) (n : Node) → full s ≡ true → (new_bytes s n 
 unfolding new_spot spot_for inserted_at given
 new_full s n e = go (ltb 4294967295 (next_of s))
   where
-    go : (b : Bool) → (inserted_at s (with_number n (next_of s)) (numbered (more (head_of s))) (cond b Taken (spot_for s n)) ≡ s) × (given (cond b Taken (spot_for s n)) (next_of s) ≡ 0)
+    go : (b : Bool) → (inserted_at s (with_number n (next_of s)) (numbered (more (head_of s))) (cond b None (spot_for s n)) ≡ s) × (given (cond b None (spot_for s n)) (next_of s) ≡ 0)
     go true = (refl, refl)
     go false = (rw e refl, rw e refl)
 
@@ -127,7 +126,7 @@ module _ (s : List ℕ) (n : Node) (f : FitsNode (with_number n (next_of s))) (e
   pub length_new : length (new_bytes s n) ≡ length s
   length_new = ap length new_is ∙ length_inserted_at s n fresh after f e fresh_key (risen_count s e)
 
-  module _ (k : ℕ) (q : place_for (nodes_of s) n.parent (node_name n) ≡ Free k) where
+  module _ (k : ℕ) (q : place_for (nodes_of s) n.parent (node_name n) ≡ Some k) where
     pub number_new : new_number s n ≡ next_of s
     unfolding given
     number_new = rw (new_spot_is, q) refl

@@ -1,4 +1,5 @@
 -- The scan, walked turn by turn. Assumes nothing.
+use Rattle.std.specs.Prelude.{Option, Some, None, min}
 use mathlib.Core.Path.{◌≡◌, refl, sym, ap, ◌∙◌, subst}
 use Prim.Native.Nat.{ℕ, suc, ◌+◌, ◌*◌, ◌-◌, ◌≤◌, ◌<◌}
 use native.Mathlib.Omega.{arith}
@@ -15,8 +16,6 @@ use Rattle.layers.specs.Items.{entries_of, entry_at, free_entry}
 use Rattle.layers.specs.Order.{insert_by, put_in, spot_from}
 use Rattle.layers.specs.Sorted.{Sorted}
 use Rattle.layers.specs.declared.items.Entry.{Entry}
-use Rattle.layers.specs.declared.spots.Spot.{Spot}
-use Rattle.layers.specs.declared.spots.Spot.TheVariants.{Free, Taken}
 use Rattle.layers.proofs.ItemLaws.{length_entries}
 use Rattle.layers.proofs.SortLaws.{insert_sorted}
 use Rattle.layers.proofs.PlaceLaws.{insert_taken, insert_free, insert_below, length_put_in}
@@ -41,11 +40,11 @@ rest_put_in p n i q l h m =
     rw (eq-eqb (length p) 512 l, lt-leb 512 n h, le-ltb n i m, add-one n, ← append_assoc (take i p) (q ∷ part p i (n - i)) (drop (suc n) p))
     (drop_at (take i p ++ q ∷ part p i (n - i)) (drop (suc n) p) (suc n) (simp (length-append, length-take, length-drop) (omega arith)))
 
-module _ (f : ℕ → Name) (p : List ℕ) (n q : ℕ) (x : Name) (x_is : x ≡ f q) (s : Spot) (s_is : s ≡ spot_from f 0 x (take n p)) (l : length p ≡ 512) (b : n < 512) where
-  pub filled_taken : s ≡ Taken → Filled p n (insert_by f q (take n p)) p
+module _ (f : ℕ → Name) (p : List ℕ) (n q : ℕ) (x : Name) (x_is : x ≡ f q) (s : Option ℕ) (s_is : s ≡ spot_from f 0 x (take n p)) (l : length p ≡ 512) (b : n < 512) where
+  pub filled_taken : s ≡ None → Filled p n (insert_by f q (take n p)) p
   filled_taken h = record { first = insert_taken f p n q x x_is s s_is h; rest = refl; long = l }
 
-  pub filled_free : (i : ℕ) → s ≡ Free i → (v : List ℕ) → v ≡ put_in p n i q → Filled p (n + 1) (insert_by f q (take n p)) v
+  pub filled_free : (i : ℕ) → s ≡ Some i → (v : List ℕ) → v ≡ put_in p n i q → Filled p (n + 1) (insert_by f q (take n p)) v
   filled_free i h v e =
       record {
         first = insert_free f p n q x x_is s s_is i h l b v e;
@@ -104,29 +103,27 @@ module _ (u l : List ℕ) (s : List Pair) (len : ℕ) (p₀ p : List ℕ) (n i :
     unfolding places_of scanned
     none e = record { first = sym (rw (drop_of_length-le (take len s) {i = i} e) refl) ∙ o.left; rest = o.rest; long = o.long }
 
-    pub scan_end : len ≤ i → Filled p₀ n (merged_places u l (take len s)) p
-    scan_end e = none (simp length-take (omega arith))
+    module _ (m : ℕ) (m_is : m ≡ min len 4) where
+      pub scan_end : m ≤ i → Filled p₀ n (merged_places u l (take len s)) p
+      scan_end e = none (simp length-take (omega (arith, m_is)))
 
-    pub scan_full : i ≡ 4 → Filled p₀ n (merged_places u l (take len s)) p
-    scan_full e = none (simp length-take (omega arith))
+      module _ (e : i < m) (z : Pair) where
+        step : scanned u l (drop i (take len s)) ≡ cond (is_walked (table_of u l (get_or s i z).layer) (get_or s i z).number) (get_or s i z ∷ cond (ends_scan (table_of u l (get_or s i z).layer) (get_or s i z).number) [] (scanned u l (drop (i + 1) (take len s)))) []
+        unfolding scanned
+        step = rw (drop-cons (take len s) i z (simp length-take (omega (arith, m_is))), get_or-take len s i z (omega (arith, m_is)), add-one i) refl
 
-    module _ (h : i ≤ 4) (m : i ≡ 4 → ⊥) (e : i < len) (z : Pair) (t : List ℕ) (w : ℕ) (t_is : t ≡ table_of u l w) (w_is : w ≡ (get_or s i z).layer) (r : Bool) (r_is : r ≡ is_walked t (get_or s i z).number) where
-      step : scanned u l (drop i (take len s)) ≡ cond (is_walked t (get_or s i z).number) (get_or s i z ∷ cond (ends_scan t (get_or s i z).number) [] (scanned u l (drop (i + 1) (take len s)))) []
-      unfolding scanned
-      step = rw (drop-cons (take len s) i z (simp length-take (omega arith)), get_or-take len s i z e, t_is, w_is, add-one i) refl
+        pub scan_stop : is_walked (table_of u l (get_or s i z).layer) (get_or s i z).number ≡ false → Filled p₀ n (merged_places u l (take len s)) p
+        unfolding places_of
+        scan_stop q = record { first = sym (rw (step, q) refl) ∙ o.left; rest = o.rest; long = o.long }
 
-      pub scan_stop : r ≡ false → Filled p₀ n (merged_places u l (take len s)) p
-      unfolding places_of
-      scan_stop q = record { first = sym (rw (step, ← r_is, q) refl) ∙ o.left; rest = o.rest; long = o.long }
-
-      pub scan_enter : r ≡ true → InLayer u l s len p (get_or s i z).layer (get_or s i z).number t p n i 0
-      unfolding places_of
-      scan_enter q =
-          let a : 128 * (get_or s i z).layer + 0 ≡ 128 * (get_or s i z).layer = omega arith in
-          record { long = o.long; rest = refl; sorted = o.sorted; left = rw (a, t_is, w_is) (sym (rw (step, ← r_is, q, t_is, w_is) refl) ∙ o.left) }
+        pub scan_enter : (t : List ℕ) → t ≡ table_of u l (get_or s i z).layer → is_walked (table_of u l (get_or s i z).layer) (get_or s i z).number ≡ true → InLayer u l s len p (get_or s i z).layer (get_or s i z).number t p n i 0
+        unfolding places_of
+        scan_enter t t_is q =
+            let a : 128 * (get_or s i z).layer + 0 ≡ 128 * (get_or s i z).layer = omega arith in
+            record { long = o.long; rest = refl; sorted = o.sorted; left = rw (a, t_is) (sym (rw (step, q) refl) ∙ o.left) }
 
 module _ (u l : List ℕ) (s : List Pair) (len : ℕ) (p₁ : List ℕ) (k d : ℕ) (t p : List ℕ) (n i j : ℕ) (o : InLayer u l s len p₁ k d t p n i j) where
-  module _ (j_is : j ≡ 128) (r : Bool) (r_is : r ≡ ends_scan t d) (p₀ : List ℕ) (n₁ : ℕ) (grown : n₁ ≤ n) (before : drop n₁ p₁ ≡ drop n₁ p₀) where
+  module _ (j_is : 128 ≤ j) (r : Bool) (r_is : r ≡ ends_scan t d) (p₀ : List ℕ) (n₁ : ℕ) (grown : n₁ ≤ n) (before : drop n₁ p₁ ≡ drop n₁ p₀) where
     none_left : places_of u l (cond r [] (scanned u l (drop (i + 1) (take len s)))) (take n p) ≡ merged_places u l (take len s)
     unfolding add_places
     none_left = rw r_is (sym (rw (drop_of_length-le (entries_of t) {i = j} (rw (length_entries t) (omega arith))) refl) ∙ o.left)
@@ -139,7 +136,7 @@ module _ (u l : List ℕ) (s : List Pair) (len : ℕ) (p₁ : List ℕ) (k d : �
     scan_next q = record { long = o.long; rest = o.rest ∙ later_rest p₁ p₀ n₁ n grown before; sorted = o.sorted; left = sym (rw q refl) ∙ none_left }
 
   -- one entry more
-  module _ (r q : ℕ) (p' : List ℕ) (w : Filled p r (add_place (place_name u l) d q (entry_at (entries_of t) j) (take n p)) p') (q_is : q ≡ 128 * k + j) (m : n ≤ r) (h : j ≤ 128) (e : j ≡ 128 → ⊥) where
+  module _ (r q : ℕ) (p' : List ℕ) (w : Filled p r (add_place (place_name u l) d q (entry_at (entries_of t) j) (take n p)) p') (q_is : q ≡ 128 * k + j) (m : n ≤ r) (h : j < 128) where
     added : add_places (place_name u l) d (128 * k + j) (drop j (entries_of t)) (take n p) ≡ add_places (place_name u l) d (128 * k + (j + 1)) (drop (j + 1) (entries_of t)) (take r p')
     unfolding add_places
     added =

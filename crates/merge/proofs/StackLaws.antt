@@ -1,4 +1,6 @@
 -- The merge of one name, walked layer by layer. Assumes nothing.
+use Rattle.std.specs.Prelude.{Option, None, Some, min}
+use Rattle.merge.specs.declared.stacks.Class.{Class}
 use mathlib.Core.Path.{◌≡◌, refl, sym, ◌∙◌}
 use Prim.Native.Nat.{ℕ, suc, ◌+◌, ◌≤◌, ◌<◌}
 use native.Mathlib.Omega.{arith}
@@ -15,8 +17,6 @@ use Rattle.merge.specs.Stacks.{Real, merge, seen_then, collect, reals_of, stack_
 use Rattle.merge.specs.Pushes.{no_stack, with_seen, ends_seen}
 use Rattle.merge.specs.declared.stacks.Pair.{Pair}
 use Rattle.merge.specs.declared.stacks.Stack.{Stack}
-use Rattle.merge.specs.declared.stacks.Seen.{Seen}
-use Rattle.merge.specs.declared.stacks.Seen.TheVariants.{Nothing, There}
 use Rattle.merge.proofs.PushLaws.{walk, walk_merge, length_merge}
 
 -- an array of structs has as many items as its words
@@ -40,9 +40,9 @@ unfolding collect seen_then
 length_collect u l x [] = omega arith
 length_collect u l x (a ∷ s) = go (seen_of (table_of u l a.layer) a.number x) (length_collect u l x s)
   where
-    go : (f : Seen) → length (collect u l x s) ≤ length s → length (seen_then a.layer f (collect u l x s)) ≤ suc (length s)
-    go Nothing ih = omega arith
-    go (There c n) ih = omega arith
+    go : (f : Option (Class × ℕ)) → length (collect u l x s) ≤ length s → length (seen_then a.layer f (collect u l x s)) ≤ suc (length s)
+    go None ih = omega arith
+    go (Some (c, n)) ih = omega arith
 
 pub length_reals : (u l : List ℕ) (s : List Pair) (x : Name) → length (reals_of u l s x) ≤ length s
 length_reals u l s x =
@@ -60,10 +60,10 @@ length_stack u l s x =
 
 -- ---- the walk
 
-walk_seen : (o : Stack) (k : ℕ) (f : Seen) (rs : List Real) → walk o (seen_then k f rs) ≡ cond (ends_seen f) (with_seen o k f) (walk (with_seen o k f) rs)
+walk_seen : (o : Stack) (k : ℕ) (f : Option (Class × ℕ)) (rs : List Real) → walk o (seen_then k f rs) ≡ cond (ends_seen f) (with_seen o k f) (walk (with_seen o k f) rs)
 unfolding walk seen_then with_seen ends_seen
-walk_seen o k Nothing rs = refl
-walk_seen o k (There c n) rs = refl
+walk_seen o k None rs = refl
+walk_seen o k (Some (c, n)) rs = refl
 
 module _ (u l : List ℕ) (s : List Pair) (z : Pair) (len : ℕ) (x : Name) where
   -- what is left from place `i` of the stack on makes of `o` the merged stack
@@ -77,40 +77,39 @@ module _ (u l : List ℕ) (s : List Pair) (z : Pair) (len : ℕ) (x : Name) wher
       let b : length (take len s) ≤ 4 = simp length-take (omega arith) in
       rw h (walk_merge (reals_of u l (take len s) x) (omega arith))
 
-  pub stack_end : (o : Stack) (i : ℕ) → Left o i → length s ≡ 4 → len ≤ i → o ≡ merged_stack u l (take len s) x
+  pub stack_end : (o : Stack) (i m : ℕ) → Left o i → length s ≡ 4 → m ≡ min len 4 → m ≤ i → o ≡ merged_stack u l (take len s) x
   unfolding scanned collect walk
-  stack_end o i q g e = sym (rw (drop_of_length-le (take len s) {i = i} (simp length-take (omega arith))) refl) ∙ q
+  stack_end o i m q g m_is e = sym (rw (drop_of_length-le (take len s) {i = i} (simp length-take (omega (arith, m_is)))) refl) ∙ q
 
-  pub stack_full : (o : Stack) (i : ℕ) → Left o i → length s ≡ 4 → i ≡ 4 → o ≡ merged_stack u l (take len s) x
-  unfolding scanned collect walk
-  stack_full o i q g e = sym (rw (drop_of_length-le (take len s) {i = i} (simp length-take (omega arith))) refl) ∙ q
-
-  module _ (o : Stack) (i : ℕ) (q : Left o i) (g : length s ≡ 4) (h : i ≤ 4) (n : i ≡ 4 → ⊥) (e : i < len) (t : List ℕ) (w : ℕ) (t_is : t ≡ table_of u l w) (w_is : w ≡ (get_or s i z).layer) (r : Bool) (r_is : r ≡ is_walked t (get_or s i z).number) where
+  module _ (o : Stack) (i m : ℕ) (q : Left o i) (g : length s ≡ 4) (m_is : m ≡ min len 4) (e : i < m) where
     abbrev d : ℕ
     d = (get_or s i z).number
 
-    step : scanned u l (drop i (take len s)) ≡ cond (is_walked t d) (get_or s i z ∷ cond (ends_scan t d) [] (scanned u l (drop (i + 1) (take len s)))) []
+    abbrev b : List ℕ
+    b = table_of u l (get_or s i z).layer
+
+    step : scanned u l (drop i (take len s)) ≡ cond (is_walked b d) (get_or s i z ∷ cond (ends_scan b d) [] (scanned u l (drop (i + 1) (take len s)))) []
     unfolding scanned
-    step = rw (drop-cons (take len s) i z (simp length-take (omega arith)), get_or-take len s i z e, t_is, w_is, add-one i) refl
+    step = rw (drop-cons (take len s) i z (simp length-take (omega (arith, m_is))), get_or-take len s i z (omega (arith, m_is)), add-one i) refl
 
-    pub stack_stop : r ≡ false → o ≡ merged_stack u l (take len s) x
+    pub stack_stop : is_walked b d ≡ false → o ≡ merged_stack u l (take len s) x
     unfolding collect walk
-    stack_stop y = sym (rw (step, ← r_is, y) refl) ∙ q
+    stack_stop y = sym (rw (step, y) refl) ∙ q
 
-    module _ (y : r ≡ true) (f : Seen) (f_is : f ≡ seen_of t d x) (o' : Stack) (o_is : o' ≡ with_seen o (get_or s i z).layer f) (b : Bool) (b_is : b ≡ ends_seen f) where
-      turn : cond b o' (walk o' (collect u l x (cond (ends_scan t d) [] (scanned u l (drop (i + 1) (take len s)))))) ≡ merged_stack u l (take len s) x
+    module _ (t : List ℕ) (t_is : t ≡ b) (y : is_walked b d ≡ true) (f : Option (Class × ℕ)) (f_is : f ≡ seen_of t d x) (o' : Stack) (o_is : o' ≡ with_seen o (get_or s i z).layer f) (v : Bool) (v_is : v ≡ ends_seen f) where
+      turn : cond v o' (walk o' (collect u l x (cond (ends_scan t d) [] (scanned u l (drop (i + 1) (take len s)))))) ≡ merged_stack u l (take len s) x
       unfolding collect
       turn =
-          rw (b_is, o_is, f_is, t_is, w_is)
-          (sym (walk_seen o (get_or s i z).layer (seen_of (table_of u l (get_or s i z).layer) d x) (collect u l x (cond (ends_scan (table_of u l (get_or s i z).layer) d) [] (scanned u l (drop (i + 1) (take len s))))))
-          ∙ (sym (rw (step, ← r_is, y, t_is, w_is) refl) ∙ q))
+          rw (v_is, o_is, f_is, t_is)
+          (sym (walk_seen o (get_or s i z).layer (seen_of b d x) (collect u l x (cond (ends_scan b d) [] (scanned u l (drop (i + 1) (take len s))))))
+          ∙ (sym (rw (step, y) refl) ∙ q))
 
-      pub stack_merged : b ≡ true → o' ≡ merged_stack u l (take len s) x
-      stack_merged v = sym (rw v refl) ∙ turn
+      pub stack_merged : v ≡ true → o' ≡ merged_stack u l (take len s) x
+      stack_merged w = sym (rw w refl) ∙ turn
 
-      module _ (v : b ≡ false) (c : Bool) (c_is : c ≡ ends_scan t d) where
+      module _ (w : v ≡ false) (c : Bool) (c_is : c ≡ ends_scan t d) where
         on : walk o' (collect u l x (cond c [] (scanned u l (drop (i + 1) (take len s))))) ≡ merged_stack u l (take len s) x
-        on = rw c_is (sym (rw v refl) ∙ turn)
+        on = rw c_is (sym (rw w refl) ∙ turn)
 
         pub stack_scanned : c ≡ true → o' ≡ merged_stack u l (take len s) x
         unfolding collect walk
@@ -119,7 +118,7 @@ module _ (u l : List ℕ) (s : List Pair) (z : Pair) (len : ℕ) (x : Name) wher
         pub stack_next : c ≡ false → Left o' (i + 1)
         stack_next a = rw a at on
 
-pub ruleset stack_walk = (stack_end, stack_full, stack_stop, stack_merged, stack_scanned, stack_next)
+pub ruleset stack_walk = (stack_end, stack_stop, stack_merged, stack_scanned, stack_next)
 
 pub none_length : (o : Stack) → o ≡ no_stack → o.length ≤ 0
 none_length o h = let e : o.length ≡ 0 = rw h refl in omega arith

@@ -1,4 +1,7 @@
 -- Which bytes a layer has. Assumes nothing.
+use denote.Ref.{Bor}
+use Rattle.std.specs.Prelude.{Option, Some, None, MatchOption, ◌≢◌}
+use Rattle.std.specs.Array.{IsWholeChunk}
 use mathlib.Core.Path.{◌≡◌, refl, sym, ap, ◌∙◌}
 use Prim.Native.Nat.{ℕ, zero, suc, ◌+◌, ◌*◌, ◌-◌, ◌/◌, ◌%◌, ◌≤◌, ◌<◌}
 use native.Mathlib.Omega.{arith}
@@ -8,7 +11,7 @@ use lib.Dec.{eqb, ltb}
 use lib.ListN.{length, take, drop, length-take, length-drop, get_or}
 use borrow.Author.Tests.{eqb-true, ltb-false, eq-eqb, ne_eqb, lt-ltb, le-ltb}
 use Rattle.layers.specs.Bytes.{part}
-use Rattle.merge.specs.Tables.{table_of, place_name}
+use Rattle.merge.specs.Tables.{table_of, place_name, IsTable}
 use Rattle.layers.specs.Items.{pieces, entry_of, entries_of, entry_at, free_entry}
 use Rattle.layers.specs.Search.{name_of}
 
@@ -37,11 +40,11 @@ module _ (u l : List ℕ) (k : ℕ) where
           let g : 8192 * (k - 1) + 8192 ≤ length l = ltb-false (length l) (8192 * (k - 1) + 8192) s in
           absurd (h (simp (length-take, length-drop) (omega arith)))
 
-  pub table_past : (k ≡ 0 → ⊥) → 3 < k → [] ≡ table_of u l k
+  pub table_past : (k ≡ 0 → ⊥) → 3 < k → table_of u l k ≡ []
   unfolding table_of
   table_past h g = rw (ne_eqb k 0 h, lt-ltb 3 k g) refl
 
-  pub table_short : (k ≡ 0 → ⊥) → k ≤ 3 → length l < 8192 * (k - 1) + 8192 → [] ≡ table_of u l k
+  pub table_short : (k ≡ 0 → ⊥) → k ≤ 3 → length l < 8192 * (k - 1) + 8192 → table_of u l k ≡ []
   unfolding table_of
   table_short h g s = rw (ne_eqb k 0 h, le-ltb 3 k g, lt-ltb (length l) (8192 * (k - 1) + 8192) s) refl
 
@@ -49,7 +52,21 @@ module _ (u l : List ℕ) (k : ℕ) where
   unfolding table_of
   table_lower h g s = let z : 8192 * (k - 1) + 8192 - 8192 * (k - 1) ≡ 8192 = omega arith in rw (z, ne_eqb k 0 h, le-ltb 3 k g, le-ltb (length l) (8192 * (k - 1) + 8192) s) refl
 
-pub ruleset tables = (table_upper, table_no_upper, table_past, table_short, table_lower)
+-- bytes that are a table, as the library tells it
+abbrev Whole : List ℕ → Option (Bor (List ℕ)) → Type 0
+Whole b r = MatchOption r (length b ≢ 8192) (λ y. IsWholeChunk b y.now 8192)
+
+module _ (u l : List ℕ) (k : ℕ) where
+  pub upper_table : k ≡ 0 → (r : Option (Bor (List ℕ))) → Whole u r → IsTable (table_of u l k) r
+  upper_table h (Some y) w = let e = table_upper u l k h w.long in (w.same ∙ e, ap length (sym e) ∙ w.long)
+  upper_table h None w = sym (table_no_upper u l k h w)
+
+  pub lower_table : (k ≡ 0 → ⊥) → k ≤ 3 → 8192 * (k - 1) + 8192 ≤ length l → (r : Option (Bor (List ℕ)))
+      → Whole (take (8192 * (k - 1) + 8192 - 8192 * (k - 1)) (drop (8192 * (k - 1)) l)) r → IsTable (table_of u l k) r
+  lower_table h g s (Some y) w = let e = table_lower u l k h g s in (w.same ∙ e, ap length (sym e) ∙ w.long)
+  lower_table h g s None w = absurd (w (simp (length-take, length-drop) (omega arith)))
+
+pub ruleset tables = (table_past, table_short, upper_table, lower_table)
 
 -- ---- no bytes hold nothing
 
@@ -63,16 +80,13 @@ module _ (u l : List ℕ) (k : ℕ) (t : List ℕ) (e : t ≡ table_of u l k) (h
   gone : table_of u l k ≡ []
   gone = table_none u l k (λ z. h (ap length e ∙ z))
 
-  pub no_entry : (j : ℕ) → name_of (entry_at (entries_of (table_of u l k)) j) ≡ []
-  unfolding entries_of
-  no_entry j = rw gone (empty_entry 128 j).0
-
   pub no_parent : (j : ℕ) → (entry_at (entries_of (table_of u l k)) j).parent ≡ 0
   unfolding entries_of
   no_parent j = rw gone (empty_entry 128 j).1
 
-pub no_name : (u l t : List ℕ) (q : ℕ) → t ≡ table_of u l (q / 128) → (length t ≡ 8192 → ⊥) → [] ≡ place_name u l q
-no_name u l t q e h = sym (no_entry u l (q / 128) t e h (q % 128))
+pub no_name : (u l : List ℕ) (q k : ℕ) → k ≡ q / 128 → table_of u l k ≡ [] → [] ≡ place_name u l q
+unfolding entries_of
+no_name u l q k e h = rw (← e, h) (sym (empty_entry 128 (q % 128)).0)
 
-pub name_there : (u l t r : List ℕ) (q : ℕ) → t ≡ table_of u l (q / 128) → r ≡ name_of (entry_at (entries_of t) (q % 128)) → r ≡ place_name u l q
-name_there u l t r q e h = h ∙ rw e refl
+pub name_there : (u l t r : List ℕ) (q k j : ℕ) → k ≡ q / 128 → j ≡ q % 128 → t ≡ table_of u l k → r ≡ name_of (entry_at (entries_of t) j) → r ≡ place_name u l q
+name_there u l t r q k j e f g h = h ∙ rw (g, e, f) refl

@@ -1,24 +1,18 @@
 -- A node passed over by the first 8 bytes of its name. Assumes nothing.
 use mathlib.Core.Path.{◌≡◌, refl, sym, ap, ◌∙◌}
-use Prim.Native.Nat.{ℕ, ◌+◌, ◌*◌, ◌≤◌, ◌<◌}
+use Prim.Native.Nat.{ℕ, ◌≤◌}
 use native.Mathlib.Omega.{arith}
 use mathlib.Core.Bool.{Bool, true, false, cond}
 use mathlib.Core.List.{List}
 use lib.Dec.{eqb}
-use lib.ListN.{length, take, drop, length-take}
+use lib.ListN.{length, take, length-take}
 use lib.Seq.{take-take}
-use Rattle.layers.specs.Bytes.{le_of, number_at}
+use Rattle.layers.specs.Bytes.{le_of}
 use Rattle.layers.specs.Names.{Name, same_name}
-use Rattle.layers.proofs.Numbers.{number_in}
 use Rattle.layers.proofs.NameLaws.{same_true}
 use Rattle.merge.specs.declared.node.Node.{Node}
-use Rattle.merge.specs.Nodes.{count_of, nodes_of, node_at, node_name}
+use Rattle.merge.specs.Nodes.{node_name}
 use Rattle.merge.specs.State.{is_child, first_word}
-use Rattle.merge.proofs.StateLaws.{name_is}
-
-pub word_is : (s : List ℕ) (j r : ℕ) (h : j < count_of s) (l : 52 * j + 64 ≤ length s) → r ≡ number_at 8 s (12 + 52 * j + 24) → r ≡ first_word (node_at (nodes_of s) j).name
-word_is s j r h l e =
-    e ∙ (number_in 8 s (12 + 52 * j + 24) (omega arith) ∙ sym (rw (name_is s j h l) (ap le_of (take-take 8 28 (drop (12 + 52 * j + 24) s) (omega arith)))))
 
 -- what was taken is no longer than asked
 longer : (m k : ℕ) (y : List ℕ) → k ≤ length (take m y) → k ≤ m
@@ -45,7 +39,3 @@ word_other p x n v w l e q h = go (is_child p x n) refl
     go : (b : Bool) → is_child p x n ≡ b → false ≡ is_child p x n
     go true t = absurd (h (q ∙ (name_word n x (child_name p x n t) l ∙ sym e)))
     go false t = sym t
-
--- the first 8 bytes of a name in hand
-pub word_of : (x : List ℕ) (r : ℕ) → 8 ≤ length x → r ≡ number_at 8 x 0 → r ≡ first_word x
-word_of x r l e = e ∙ number_in 8 x 0 (omega arith)

@@ -1,8 +1,6 @@
 -- The bytes of a state with a node changed, put in at its place, or taken out. Assumes nothing.
-use Rattle.std.specs.Prelude.{cond, ℕ, suc, ◌+◌, ◌*◌, ◌-◌, List, ◌++◌, ltb, replicate}
+use Rattle.std.specs.Prelude.{cond, ℕ, suc, ◌+◌, ◌*◌, ◌-◌, List, ◌++◌, ltb, replicate, Option, Some, None}
 use Rattle.layers.specs.Bytes.{part, over}
-use Rattle.layers.specs.declared.spots.Spot.{Spot}
-use Rattle.layers.specs.declared.spots.Spot.TheVariants.{Free, Taken}
 use Rattle.merge.specs.declared.node.Node.{Node}
 use Rattle.merge.specs.declared.head.Head.{Head}
 use Rattle.merge.specs.Nodes.{node_bytes, node_name, count_of, nodes_of}
@@ -26,24 +24,24 @@ taken_bytes s k =
     s
 
 -- the place for a node, where a further one fits and its parent has none of its name
-unfoldable pub spot_for : List ℕ → Node → Spot
-spot_for s n = cond (full s) Taken (place_for (nodes_of s) n.parent (node_name n))
+unfoldable pub spot_for : List ℕ → Node → Option ℕ
+spot_for s n = cond (full s) None (place_for (nodes_of s) n.parent (node_name n))
 
-unfoldable pub inserted_at : List ℕ → Node → Head → Spot → List ℕ
-inserted_at s n h (Free k) = inserted_bytes s k n h
-inserted_at s n h Taken = s
+unfoldable pub inserted_at : List ℕ → Node → Head → Option ℕ → List ℕ
+inserted_at s n h (Some k) = inserted_bytes s k n h
+inserted_at s n h None = s
 
 -- a node put in at its place
 abbrev pub put_in_bytes : List ℕ → Node → List ℕ
 put_in_bytes s n = inserted_at s n (more (head_of s)) (spot_for s n)
 
 -- a node put in with the next number, which is then given; where no number or no place is left, nothing changes
-unfoldable pub new_spot : List ℕ → Node → Spot
-new_spot s n = cond (ltb 4294967295 (next_of s)) Taken (spot_for s n)
+unfoldable pub new_spot : List ℕ → Node → Option ℕ
+new_spot s n = cond (ltb 4294967295 (next_of s)) None (spot_for s n)
 
-unfoldable pub given : Spot → ℕ → ℕ
-given (Free k) x = x
-given Taken x = 0
+unfoldable pub given : Option ℕ → ℕ → ℕ
+given (Some k) x = x
+given None x = 0
 
 abbrev pub new_number : List ℕ → Node → ℕ
 new_number s n = given (new_spot s n) (next_of s)
@@ -52,8 +50,8 @@ abbrev pub new_bytes : List ℕ → Node → List ℕ
 new_bytes s n = inserted_at s (with_number n (next_of s)) (numbered (more (head_of s))) (new_spot s n)
 
 -- the place `k`, where a number is left, a further node fits and `k` is among the nodes or right behind them
-unfoldable pub seat_spot : List ℕ → ℕ → Spot
-seat_spot s k = cond (ltb 4294967295 (next_of s)) Taken (cond (full s) Taken (cond (ltb (count_of s) k) Taken (Free k)))
+unfoldable pub seat_spot : List ℕ → ℕ → Option ℕ
+seat_spot s k = cond (ltb 4294967295 (next_of s)) None (cond (full s) None (cond (ltb (count_of s) k) None (Some k)))
 
 -- a node put in there with the next number, which is then given
 abbrev pub seated_number : List ℕ → ℕ → ℕ
@@ -63,6 +61,6 @@ abbrev pub seated_bytes : List ℕ → Node → ℕ → List ℕ
 seated_bytes s n k = inserted_at s (with_number n (next_of s)) (numbered (more (head_of s))) (seat_spot s k)
 
 -- where the search for the next name's place starts, this one's having started at `k`: behind the node put in
-unfoldable pub behind : ℕ → Spot → ℕ
-behind k (Free j) = suc j
-behind k Taken = k
+unfoldable pub behind : ℕ → Option ℕ → ℕ
+behind k (Some j) = suc j
+behind k None = k

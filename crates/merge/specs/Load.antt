@@ -1,12 +1,14 @@
 -- Loading a directory: a node for each merged name that has none. Assumes nothing.
-use Rattle.std.specs.Prelude.{◌≡◌, ℕ, ◌≤◌, Bool, false, not, cond, List, [], ◌∷◌, map, eqb, leb, length, take, replicate}
+use Rattle.std.specs.Prelude.{◌≡◌, ℕ, ◌≤◌, Bool, false, not, cond, List, [], ◌∷◌, map, eqb, leb, length, take, replicate, Result, Ok, Err, is_some}
+use Rattle.merge.specs.declared.load.LoadError.{LoadError}
+use Rattle.merge.specs.declared.load.LoadError.TheVariants.{NoRoom}
 use Rattle.layers.specs.Bytes.{least, laid}
 use Rattle.layers.specs.Names.{Name}
 use Rattle.layers.specs.Search.{one}
 use Rattle.merge.specs.Nodes.{nodes_of, node_at}
 use Rattle.merge.specs.Methods.{with_loaded}
 use Rattle.merge.specs.Heads.{room_of, numbers_left}
-use Rattle.merge.specs.State.{find_child, is_found, those}
+use Rattle.merge.specs.State.{find_child, those}
 use Rattle.merge.specs.Changes.{put_bytes, new_bytes}
 use Rattle.merge.specs.Tables.{place_name}
 use Rattle.merge.specs.Scan.{merged_names}
@@ -15,13 +17,11 @@ use Rattle.merge.specs.Tops.{Topmost}
 use Rattle.merge.specs.declared.stacks.Pair.{Pair}
 use Rattle.merge.specs.declared.stacks.Stack.{Stack}
 use Rattle.merge.specs.declared.node.Node.{Node}
-use Rattle.merge.specs.declared.load.Loading.{Loading}
-use Rattle.merge.specs.declared.load.Loading.TheVariants.{Done, NoRoom}
 
 -- "If places or numbers don't suffice it adds none: 23."
-abbrev pub load_errno : Loading → ℕ
-load_errno Done = 0
-load_errno NoRoom = 23
+abbrev pub load_errno : Result (Unit {0}) LoadError → ℕ
+load_errno (Ok tt) = 0
+load_errno (Err NoRoom) = 23
 
 -- "A new node's count is 1."; it is not loaded, and its number is yet to be given
 unfoldable pub new_node : ℕ → Stack → Name → Node
@@ -40,7 +40,7 @@ new_node p st x =
 
 -- the names that have no node below `p`
 unfoldable pub has_none : List Node → ℕ → Name → Bool
-has_none ns p x = not (is_found (find_child ns p x))
+has_none ns p x = not (is_some (find_child ns p x))
 
 abbrev pub missing_names : List Node → ℕ → List Name → List Name
 missing_names ns p xs = those (has_none ns p) xs
@@ -65,8 +65,8 @@ suffices s k = cond (leb k (room_of s)) (leb k (numbers_left s)) false
 unfoldable pub is_loaded : Node → Bool
 is_loaded n = not (eqb n.loaded 0)
 
-unfoldable pub load_node : List ℕ → List ℕ → List ℕ → ℕ → Node → Loading
-load_node u l s j n = cond (is_loaded n) Done (cond (suffices s (length (to_add u l s n))) Done NoRoom)
+unfoldable pub load_node : List ℕ → List ℕ → List ℕ → ℕ → Node → Result (Unit {0}) LoadError
+load_node u l s j n = cond (is_loaded n) (Ok tt) (cond (suffices s (length (to_add u l s n))) (Ok tt) (Err NoRoom))
 
 unfoldable pub load_node_bytes : List ℕ → List ℕ → List ℕ → ℕ → Node → List ℕ
 load_node_bytes u l s j n =
@@ -76,7 +76,7 @@ load_node_bytes u l s j n =
     s)
 
 -- "adds a node for each merged name that has none, in byte order of names, keeps the others, sets the mark", for the node at place `j`
-abbrev pub load_answer : List ℕ → List ℕ → List ℕ → ℕ → Loading
+abbrev pub load_answer : List ℕ → List ℕ → List ℕ → ℕ → Result (Unit {0}) LoadError
 load_answer u l s j = load_node u l s j (node_at (nodes_of s) j)
 
 abbrev pub load_bytes : List ℕ → List ℕ → List ℕ → ℕ → List ℕ

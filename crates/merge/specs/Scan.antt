@@ -1,5 +1,6 @@
 -- The directory scan. Assumes nothing.
-use Rattle.std.specs.Prelude.{ℕ, Bool, false, cond, List, [], ◌∷◌, eqb, length}
+use denote.Ref.{Bor}
+use Rattle.std.specs.Prelude.{◌≡◌, ℕ, Bool, true, false, Option, MatchOption, cond, List, [], ◌∷◌, eqb, length}
 use Rattle.layers.specs.Names.{Name}
 use Rattle.layers.specs.Items.{entries_of, records_of, record_at}
 use Rattle.layers.specs.Search.{name_of}
@@ -12,6 +13,10 @@ use Rattle.merge.specs.declared.stacks.Pair.{Pair}
 -- "stop before a whiteout or a non-directory"; a layer that is not there has no directory
 unfoldable pub is_walked : List ℕ → ℕ → Bool
 is_walked t d = cond (eqb (length t) 8192) (is_directory (record_at (records_of t) d)) false
+
+-- the table, where its directory `d` is walked
+abbrev pub IsWalked : List ℕ → ℕ → Option (Bor (List ℕ)) → Type 0
+IsWalked b d r = MatchOption r (is_walked b d ≡ false) (λ t. (t.now ≡ b) × (is_walked b d ≡ true))
 
 -- "stop after an opaque one"
 unfoldable pub ends_scan : List ℕ → ℕ → Bool

@@ -1,5 +1,5 @@
 -- The merge of one name's real records, and the merged stack of a name. Assumes nothing.
-use Rattle.std.specs.Prelude.{ℕ, Bool, true, false, List, [], ◌∷◌, ◌++◌, map, length, take, replicate}
+use Rattle.std.specs.Prelude.{ℕ, Bool, true, false, List, [], ◌∷◌, ◌++◌, map, length, take, replicate, Option, None, Some}
 use Rattle.layers.specs.Names.{Name}
 use Rattle.merge.specs.Tables.{table_of}
 use Rattle.merge.specs.Classes.{seen_of}
@@ -8,8 +8,6 @@ use Rattle.merge.specs.declared.stacks.Pair.{Pair}
 use Rattle.merge.specs.declared.stacks.Stack.{Stack}
 use Rattle.merge.specs.declared.stacks.Class.{Class}
 use Rattle.merge.specs.declared.stacks.Class.TheVariants.{Whiteout, Other, Plain, Opaque}
-use Rattle.merge.specs.declared.stacks.Seen.{Seen}
-use Rattle.merge.specs.declared.stacks.Seen.TheVariants.{Nothing, There}
 
 -- ---- the merge, of any records that have a class
 
@@ -62,9 +60,9 @@ pub record Real : Type 0 where
   pub place : Pair
   pub class : Class
 
-unfoldable pub seen_then : ℕ → Seen → List Real → List Real
-seen_then k Nothing rs = rs
-seen_then k (There c n) rs = record { place = pair k n; class = c } ∷ rs
+unfoldable pub seen_then : ℕ → Option (Class × ℕ) → List Real → List Real
+seen_then k None rs = rs
+seen_then k (Some (c, n)) rs = record { place = pair k n; class = c } ∷ rs
 
 -- "collect each name's records in that order"
 unfoldable pub collect : List ℕ → List ℕ → Name → List Pair → List Real

@@ -1,13 +1,10 @@
 -- The nodes of a state searched: by number, by parent and name, by parent, and for the place of a new one. Assumes nothing.
-use Rattle.std.specs.Prelude.{Bool, true, false, cond, ◌≡◌, ℕ, ◌≤◌, ◌<◌, List, [], ◌∷◌, eqb, ltb, length, take, drop}
+use Rattle.std.specs.Prelude.{Bool, false, cond, ◌≡◌, ℕ, ◌≤◌, ◌<◌, List, [], ◌∷◌, eqb, ltb, length, take, drop, Option, is_some}
+use Rattle.std.specs.declared.cmp.Ordering.TheVariants.{Less, Greater}
 use Rattle.layers.specs.Bytes.{le_of, be_of}
 use Rattle.layers.specs.Names.{Name, same_name, order_of}
 use Rattle.layers.specs.Search.{first_from}
 use Rattle.layers.specs.Order.{spot_from}
-use Rattle.layers.specs.declared.names.Order.TheVariants.{Before, After}
-use Rattle.layers.specs.declared.search.Found.{Found}
-use Rattle.layers.specs.declared.search.Found.TheVariants.{At, Missing}
-use Rattle.layers.specs.declared.spots.Spot.{Spot}
 use Rattle.merge.specs.declared.node.Node.{Node}
 use Rattle.merge.specs.Nodes.{node_at, node_name, key_of}
 
@@ -33,24 +30,20 @@ unfoldable pub lead_of : Name → ℕ
 lead_of x = cond (ltb (length x) 8) 0 (top_word x)
 
 -- the place of the node of number `x`
-abbrev pub find_number : List Node → ℕ → Found
+abbrev pub find_number : List Node → ℕ → Option ℕ
 find_number ns x = first_from (is_number x) 0 ns
 
 -- the place of the node that the node of number `p` has under the name `x`
-abbrev pub find_child : List Node → ℕ → Name → Found
+abbrev pub find_child : List Node → ℕ → Name → Option ℕ
 find_child ns p x = first_from (is_child p x) 0 ns
 
 -- the first place from `j` on of a child of `p`
-abbrev pub child_from : List Node → ℕ → ℕ → Found
+abbrev pub child_from : List Node → ℕ → ℕ → Option ℕ
 child_from ns p j = first_from (has_parent p) j (drop j ns)
-
-unfoldable pub is_found : Found → Bool
-is_found (At k) = true
-is_found Missing = false
 
 -- "has resident children": a node with this parent has a place
 abbrev pub has_children : List Node → ℕ → Bool
-has_children ns p = is_found (child_from ns p 0)
+has_children ns p = is_some (child_from ns p 0)
 
 -- those that pass the test, in their order
 unfoldable pub those : {A : Type 0} → (A → Bool) → List A → List A
@@ -62,7 +55,7 @@ abbrev pub children_of : List Node → ℕ → List Node
 children_of ns p = those (has_parent p) ns
 
 -- where a node of parent `p` and name `x` belongs: "before the first that comes after it"
-abbrev pub place_for : List Node → ℕ → Name → Spot
+abbrev pub place_for : List Node → ℕ → Name → Option ℕ
 place_for ns p x = spot_from key_of 0 (p ∷ x) ns
 
 -- ---- what the private functions ask of a search that starts behind the first nodes
@@ -70,8 +63,8 @@ place_for ns p x = spot_from key_of 0 (p ∷ x) ns
 -- the first `k` nodes come before the name `x` below `p`
 pub record Passed (ns : List Node) (p : ℕ) (x : Name) (k : ℕ) : Type 0 where
   pub within : k ≤ length ns
-  pub after : (j : ℕ) → j < k → order_of (p ∷ x) (key_of (node_at ns j)) ≡ After
+  pub after : (j : ℕ) → j < k → order_of (p ∷ x) (key_of (node_at ns j)) ≡ Greater
 
 -- they come before every name that comes after `x`
 pub record PassedNext (ns : List Node) (p : ℕ) (x : Name) (k : ℕ) : Type 0 where
-  pub next : (y : Name) → order_of x y ≡ Before → Passed ns p y k
+  pub next : (y : Name) → order_of x y ≡ Less → Passed ns p y k

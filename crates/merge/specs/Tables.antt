@@ -1,5 +1,6 @@
 -- The layers' tables by number, and the entries' places over all of them. Assumes nothing.
-use Rattle.std.specs.Prelude.{ℕ, ◌+◌, ◌*◌, ◌-◌, ◌/◌, ◌%◌, cond, List, [], eqb, ltb, length}
+use denote.Ref.{Bor}
+use Rattle.std.specs.Prelude.{◌≡◌, Option, MatchOption, ℕ, ◌+◌, ◌*◌, ◌-◌, ◌/◌, ◌%◌, cond, List, [], eqb, ltb, length}
 use Rattle.layers.specs.Bytes.{part}
 use Rattle.layers.specs.Names.{Name}
 use Rattle.layers.specs.Items.{entries_of, entry_at}
@@ -11,6 +12,10 @@ unfoldable pub table_of : List ℕ → List ℕ → ℕ → List ℕ
 table_of u l k =
     cond (eqb k 0) (cond (eqb (length u) 8192) u [])
     (cond (ltb 3 k) [] (cond (ltb (length l) (8192 * (k - 1) + 8192)) [] (part l (8192 * (k - 1)) 8192)))
+
+-- the table that these bytes are, or none where there are none
+abbrev pub IsTable : List ℕ → Option (Bor (List ℕ)) → Type 0
+IsTable b r = MatchOption r (b ≡ []) (λ t. (t.now ≡ b) × (length b ≡ 8192))
 
 -- the name at place `q` of all layers: 128 places a layer
 abbrev pub place_name : List ℕ → List ℕ → ℕ → Name

@@ -1,8 +1,7 @@
 // Loading a directory: a node for each merged name that has none.
-ghost use Rattle.std.specs.Prelude.{◌≡◌, ◌≤◌, map, length, take};
+ghost use Rattle.std.specs.Prelude.{◌≡◌, ◌≤◌, map, length, take, Some};
 ghost use Rattle.layers.specs.Search.{one};
 ghost use Rattle.layers.specs.Sorted.{Sorted};
-ghost use Rattle.layers.specs.declared.search.Found.TheVariants.{At};
 ghost use Rattle.merge.specs.Tables.{place_name};
 ghost use Rattle.merge.specs.Nodes.{nodes_of};
 ghost use Rattle.merge.specs.State.{Passed, PassedNext};
@@ -14,43 +13,34 @@ ghost use Rattle.merge.specs.Load.{new_node, has_none, add_names, is_loaded, suf
 
 use crate::node::Node;
 use crate::stacks::{Pair, Stack};
-use crate::{change, head, scan, stacks, state, tables};
-use layers::search::Found;
+use crate::tables::Layers;
+use crate::{change, head, scan, stacks, state};
 
-// What became of a load.
+// Why a directory is not loaded.
 #[derive(Clone, Copy)]
-pub enum Loading {
-    Done,
+pub enum LoadError {
+    // Node places or numbers don't suffice.
     NoRoom,
 }
 
 // ---- a new node
 
-fn mark(w: bool) -> u8
-    ensures { result ≡ one w }
-{
-    if w {
-        return 1;
-    }
-    0
-}
-
 // The node of the name `x` below `p`, its number yet to be given.
 pub fn new_node(p: u32, st: Stack, x: &[u8]) -> Node
     ensures { result ≡ new_node p st x.now }
 {
-    let a = st.pairs;
-    let b = layers::names::padded(x);
+    let stack = st.pairs;
+    let name = layers::names::padded(x);
     Node {
         number: 0,
         parent: p,
         count: 1,
-        white: mark(st.whiteout),
+        white: u8::from(st.whiteout),
         loaded: 0,
         depth: layers::bytes::at_most(4, st.length),
         length: layers::bytes::at_most(28, x.len()),
-        stack: a,
-        name: b,
+        stack,
+        name,
     }
 }
 
@@ -59,35 +49,20 @@ pub fn new_node(p: u32, st: Stack, x: &[u8]) -> Node
 fn has_none(s: &[u8], p: u64, x: &[u8]) -> bool
     ensures { result ≡ has_none (nodes_of s.now) p x.now }
 {
-    let f = state::child(s, p, x);
-    let Found::At(_) = f else {
-        return true;
-    };
-    false
+    state::child(s, p, x).is_none()
 }
 
 // Of the first `n` places keeps those, in place, whose name has no node below the node of number `x`; answers how many.
-fn keep_missing<'a>(
-    s: &[u8],
-    upper: &'a [u8],
-    lower: &'a [u8],
-    x: u64,
-    p: &mut [u16],
-    n: usize,
-) -> usize
+fn keep_missing(s: &[u8], ls: Layers<'_>, x: u64, p: &mut [u16], n: usize) -> usize
     requires { (length p.old ≡ 512) × (n ≤ 512) }
-    ensures { KeptPlaces (place_has_none upper.now lower.now (nodes_of s.now) x) p.old n result p.new }
+    ensures { KeptPlaces (place_has_none ls.entry.upper.now ls.entry.lower.now (nodes_of s.now) x) p.old n result p.new }
 {
-    let mut m: usize = 0;
-    let mut i: usize = 0;
-    while i < n {
+    let mut m = 0;
+    for i in 0..n {
         let q = p[i];
-        if has_none(s, x, tables::place_name(upper, lower, q)) {
+        if has_none(s, x, ls.place_name(q)) {
             p[m] = q;
             m += 1;
-            i += 1;
-        } else {
-            i += 1;
         }
     }
     m
@@ -96,10 +71,9 @@ fn keep_missing<'a>(
 // ---- nodes for them
 
 // A node for the name `x`, found at the place `q`, below the node of number `p`, whose stack is the first `d` of `a`; answers how many nodes come before every later name.
-fn add_name<'a>(
+fn add_name(
     s: &mut [u8],
-    upper: &'a [u8],
-    lower: &'a [u8],
+    ls: Layers<'_>,
     p: u32,
     a: [Pair; 4],
     d: usize,
@@ -107,43 +81,21 @@ fn add_name<'a>(
     q: u16,
     k: usize,
 ) -> usize
-    requires { (length x.now ≤ 28) × Passed (nodes_of s.old) p x.now k × (x.now ≡ place_name upper.now lower.now q) × (top_place upper.now lower.now x.now (scanned upper.now lower.now (take d a)) ≡ At q) }
-    ensures { (s.new ≡ new_bytes s.old (new_node p (merged_stack upper.now lower.now (take d a) x.now) x.now)) × PassedNext (nodes_of s.new) p x.now result }
+    requires { (length x.now ≤ 28) × Passed (nodes_of s.old) p x.now k × (x.now ≡ place_name ls.upper.now ls.lower.now q) × (top_place ls.upper.now ls.lower.now x.now (scanned ls.upper.now ls.lower.now (take d a)) ≡ Some q) }
+    ensures { (s.new ≡ new_bytes s.old (new_node p (merged_stack ls.entry.upper.now ls.entry.lower.now (take d a) x.now) x.now)) × PassedNext (nodes_of s.new) p x.now result }
 {
-    let st = stacks::new_from_place(upper, lower, a, d, x, q);
+    let st = stacks::new_from_place(ls, a, d, x, q);
     let n = new_node(p, st, x);
     change::put_new_from(s, n, k)
 }
 
-fn add_names<'a>(
-    s: &mut [u8],
-    upper: &'a [u8],
-    lower: &'a [u8],
-    p: u32,
-    a: [Pair; 4],
-    d: usize,
-    q: &[u16],
-    m: usize,
-)
-    requires { (length q.now ≡ 512) × (m ≤ 512) × Sorted (λ x. x) (map (place_name upper.now lower.now) (take m q.now)) × Topmost upper.now lower.now (take d a) q.now m }
-    ensures { s.new ≡ add_names upper.now lower.now p (take d a) (map (place_name upper.now lower.now) (take m q.now)) s.old }
+fn add_names(s: &mut [u8], ls: Layers<'_>, p: u32, a: [Pair; 4], d: usize, q: &[u16], m: usize)
+    requires { (length q.now ≡ 512) × (m ≤ 512) × Sorted (λ x. x) (map (place_name ls.upper.now ls.lower.now) (take m q.now)) × Topmost ls.upper.now ls.lower.now (take d a) q.now m }
+    ensures { s.new ≡ add_names ls.entry.upper.now ls.entry.lower.now p (take d a) (map (place_name ls.entry.upper.now ls.entry.lower.now) (take m q.now)) s.old }
 {
-    let mut k: usize = 0;
-    let mut i: usize = 0;
-    while i < m {
-        let e = q[i];
-        k = add_name(
-            s,
-            upper,
-            lower,
-            p,
-            a,
-            d,
-            tables::place_name(upper, lower, e),
-            e,
-            k,
-        );
-        i += 1;
+    let mut k = 0;
+    for i in 0..m {
+        k = add_name(s, ls, p, a, d, ls.place_name(q[i]), q[i], k);
     }
 }
 
@@ -165,36 +117,32 @@ pub fn has_room(s: &[u8], k: usize) -> bool
 }
 
 // The places that stand for the names to add below the node `n`, put into `p`; answers how many.
-fn to_add<'a>(s: &[u8], upper: &'a [u8], lower: &'a [u8], n: Node, p: &mut [u16]) -> usize
+fn to_add(s: &[u8], ls: Layers<'_>, n: Node, p: &mut [u16]) -> usize
     requires { length p.old ≡ 512 }
-    ensures { ToAdd upper.now lower.now s.now n result p.new }
+    ensures { ToAdd ls.entry.upper.now ls.entry.lower.now s.now n result p.new }
 {
-    let a = n.stack;
-    let d = layers::bytes::wide(n.depth);
-    let k = scan::scan_childrens(upper, lower, a, d, p);
-    let x = n.number as u64;
+    let k = scan::scan_childrens(ls, n.stack, usize::from(n.depth), p);
+    let x = u64::from(n.number);
     if state::has_children(s, x) {
-        return keep_missing(s, upper, lower, x, p, k);
+        return keep_missing(s, ls, x, p, k);
     }
     k
 }
 
 // Loads the directory whose node stands at place `j`.
-pub fn load_directory<'a>(s: &mut [u8], upper: &'a [u8], lower: &'a [u8], j: usize) -> Loading
-    ensures { (result ≡ load_answer upper.now lower.now s.old j) × (s.new ≡ load_bytes upper.now lower.now s.old j) }
+pub fn load_directory(s: &mut [u8], ls: Layers<'_>, j: usize) -> Result<(), LoadError>
+    ensures { (result ≡ load_answer ls.entry.upper.now ls.entry.lower.now s.old j) × (s.new ≡ load_bytes ls.entry.upper.now ls.entry.lower.now s.old j) }
 {
     let n = state::node_at(s, j);
     if is_loaded(n) {
-        return Loading::Done;
+        return Ok(());
     }
     let mut p = [0u16; 512];
-    let m = to_add(s, upper, lower, n, &mut p);
+    let m = to_add(s, ls, n, &mut p);
     if has_room(s, m) {
-        let a = n.stack;
-        let d = layers::bytes::wide(n.depth);
         change::put_node(s, j, n.with_loaded(1));
-        add_names(s, upper, lower, n.number, a, d, &p, m);
-        return Loading::Done;
+        add_names(s, ls, n.number, n.stack, usize::from(n.depth), &p, m);
+        return Ok(());
     }
-    Loading::NoRoom
+    Err(LoadError::NoRoom)
 }

@@ -1,10 +1,18 @@
 // A node as a value: read from 52 bytes, laid over them, and changed by its methods.
 ghost use Rattle.std.specs.Prelude.{◌≡◌, ◌+◌, ◌≤◌, ◌<◌, length, drop};
 ghost use Rattle.layers.specs.Bytes.{over, part};
-ghost use Rattle.merge.specs.Nodes.{node_of, pairs_of, pair_bytes, number_bytes, rest_bytes, node_bytes, FitsNumbers, FitsArrays, FitsNode, no_node};
-ghost use Rattle.merge.specs.Methods.{with_number, with_white, with_loaded, with_stack, forgotten, counted, topped, alone, fallen, risen, deeper, pushed, only_pair};
+ghost use Rattle.merge.specs.Nodes.{node_of, pairs_of, pair_bytes, number_bytes, rest_bytes, node_bytes, node_name, FitsNumbers, FitsArrays, FitsNode, no_node};
+ghost use Rattle.merge.specs.Methods.{with_number, with_white, with_loaded, with_stack, forgotten, counted, topped, alone};
 
 use crate::stacks::Pair;
+
+// A node as it lies in the memory.
+pub type Bytes = [u8; 52];
+
+const NO_PAIR: Pair = Pair {
+    layer: 0,
+    number: 0,
+};
 
 // Every byte of a node's 52 is a field.
 #[derive(Clone, Copy)]
@@ -24,176 +32,115 @@ pub struct Node {
 pub fn wide(x: u32) -> u64
     ensures { (result ≡ x) × (result < 4294967296) }
 {
-    x as u64
+    u64::from(x)
 }
 
 // ---- the methods: each takes the node and hands the changed one back
 
-pub(crate) fn fallen_count(c: u32, amount: u64) -> u32
-    ensures { result ≡ fallen c amount }
-{
-    let n = wide(c);
-    if n < amount {
-        return 0;
-    }
-    (n - amount) as u32
-}
-
-pub(crate) fn risen_count(c: u32) -> u32
-    ensures { result ≡ risen c }
-{
-    if c < 4294967295 {
-        return c + 1;
-    }
-    c
-}
-
-fn deeper_stack(d: u8) -> u8
-    ensures { result ≡ deeper d }
-{
-    if d < 4 {
-        return d + 1;
-    }
-    4
-}
-
-fn pushed_pairs(p: Pair, ps: [Pair; 4]) -> [Pair; 4]
-    ensures { result ≡ pushed p ps }
-{
-    [p, ps[0], ps[1], ps[2]]
-}
-
-fn one_pair(p: Pair) -> [Pair; 4]
-    ensures { result ≡ only_pair p }
-{
-    let z = Pair {
-        layer: 0,
-        number: 0,
-    };
-    [p, z, z, z]
-}
-
+#[tactic(auto, unfolding(crate::specs::Methods::with_count, crate::specs::Methods::with_stack, crate::specs::Methods::with_number, crate::specs::Methods::with_white, crate::specs::Methods::with_loaded, crate::specs::Methods::fallen, crate::specs::Methods::risen, crate::specs::Methods::deeper, crate::specs::Methods::pushed))]
 impl Node {
     // "The count falls by the amount, or to 0 if the amount exceeds it."
-    pub fn forget(mut self, amount: u64) -> Node
+    pub fn forget(self, amount: u64) -> Node
         ensures { result ≡ forgotten self amount }
     {
-        self.count = fallen_count(self.count, amount);
-        self
+        Node {
+            count: u32::try_from(amount).map_or(0, |a| self.count.saturating_sub(a)),
+            ..self
+        }
     }
 
     // A lookup counted; a count at 4294967295 stays.
-    pub fn counted(mut self) -> Node
+    pub fn counted(self) -> Node
         ensures { result ≡ counted self }
     {
-        self.count = risen_count(self.count);
-        self
+        Node {
+            count: self.count.saturating_add(1),
+            ..self
+        }
     }
 
     // A record put in front of the stack, the others one place down.
-    pub fn topped(mut self, top: Pair) -> Node
+    pub fn topped(self, top: Pair) -> Node
         ensures { result ≡ topped self top }
     {
-        let ps = self.stack;
-        let qs = pushed_pairs(top, ps);
-        self.stack = qs;
-        self.depth = deeper_stack(self.depth);
-        self
+        let [p, q, r, _] = self.stack;
+        self.with_stack([top, p, q, r], self.depth.min(3) + 1)
     }
 
     // The stack becomes this record alone.
-    pub fn alone(mut self, top: Pair) -> Node
+    pub fn alone(self, top: Pair) -> Node
         ensures { result ≡ alone self top }
     {
-        let qs = one_pair(top);
-        self.stack = qs;
-        self.depth = 1;
-        self
+        self.with_stack([top, NO_PAIR, NO_PAIR, NO_PAIR], 1)
     }
 
-    pub fn with_stack(mut self, stack: [Pair; 4], depth: u8) -> Node
+    pub fn with_stack(self, stack: [Pair; 4], depth: u8) -> Node
         ensures { result ≡ with_stack self stack depth }
     {
-        self.stack = stack;
-        self.depth = depth;
-        self
+        Node {
+            stack,
+            depth,
+            ..self
+        }
     }
 
-    pub fn with_number(mut self, number: u32) -> Node
+    pub fn with_number(self, number: u32) -> Node
         ensures { result ≡ with_number self number }
     {
-        self.number = number;
-        self
+        Node { number, ..self }
     }
 
-    pub fn with_white(mut self, white: u8) -> Node
+    // Its name, without the zeros behind it.
+    pub fn name_bytes(&self) -> &[u8]
+        ensures { result.now ≡ node_name self.now }
+    {
+        &self.name[..usize::from(self.length.min(28))]
+    }
+
+    // A byte of docs/ABI.md: `with_white` of specs/ speaks of any.
+    pub fn with_white(self, white: u8) -> Node
         ensures { result ≡ with_white self white }
     {
-        self.white = white;
-        self
+        Node { white, ..self }
     }
 
-    pub fn with_loaded(mut self, loaded: u8) -> Node
+    // Likewise.
+    pub fn with_loaded(self, loaded: u8) -> Node
         ensures { result ≡ with_loaded self loaded }
     {
-        self.loaded = loaded;
-        self
+        Node { loaded, ..self }
     }
 }
 
 // ---- a node's bytes
 
-fn stack_of(b: &[u8]) -> [Pair; 4]
-    requires { length b.now ≡ 52 }
+#[tactic(auto, unfolding(crate::specs::Nodes::pairs_of))]
+fn stack_of(b: &Bytes) -> [Pair; 4]
     ensures { result ≡ pairs_of (drop 16 b.now) }
 {
-    let p = Pair {
-        layer: b[16],
-        number: b[17],
+    let pair = |i: usize| Pair {
+        layer: b[i],
+        number: b[i + 1],
     };
-    let q = Pair {
-        layer: b[18],
-        number: b[19],
-    };
-    let r = Pair {
-        layer: b[20],
-        number: b[21],
-    };
-    let t = Pair {
-        layer: b[22],
-        number: b[23],
-    };
-    [p, q, r, t]
-}
-
-fn name_of(b: &[u8]) -> [u8; 28]
-    requires { length b.now ≡ 52 }
-    ensures { result ≡ part b.now 24 28 }
-{
-    let mut x = [0u8; 28];
-    let a = 24;
-    let e = 52;
-    layers::bytes::lay(&mut x, 0, &b[a..e]);
-    x
+    [pair(16), pair(18), pair(20), pair(22)]
 }
 
 // The node that 52 bytes hold.
-pub(crate) fn node_of(b: &[u8]) -> Node
-    requires { length b.now ≡ 52 }
-    ensures { result ≡ node_of b.now }
-{
-    let s = stack_of(b);
-    let x = name_of(b);
-    Node {
-        number: layers::bytes::u32_at(b, 0),
-        parent: layers::bytes::u32_at(b, 4),
-        count: layers::bytes::u32_at(b, 8),
-        white: b[12],
-        loaded: b[13],
-        depth: b[14],
-        length: b[15],
-        stack: s,
-        name: x,
+impl<'a> From<&'a Bytes> for Node {
+    ghost from_gives = { λ b r. r ≡ node_of b.now };
+
+    fn from(b: &'a Bytes) -> Node {
+        Node {
+            number: layers::bytes::number_in::<u32>(b, 0),
+            parent: layers::bytes::number_in::<u32>(b, 4),
+            count: layers::bytes::number_in::<u32>(b, 8),
+            white: b[12],
+            loaded: b[13],
+            depth: b[14],
+            length: b[15],
+            stack: stack_of(b),
+            name: layers::names::padded(&b[24..]),
+        }
     }
 }
 
@@ -201,12 +148,6 @@ pub(crate) fn node_of(b: &[u8]) -> Node
 pub fn no_node() -> Node
     ensures { result ≡ no_node }
 {
-    let z = Pair {
-        layer: 0,
-        number: 0,
-    };
-    let s = [z, z, z, z];
-    let x = [0u8; 28];
     Node {
         number: 0,
         parent: 0,
@@ -215,60 +156,44 @@ pub fn no_node() -> Node
         loaded: 0,
         depth: 0,
         length: 0,
-        stack: s,
-        name: x,
+        stack: [NO_PAIR; 4],
+        name: [0; 28],
     }
 }
 
+#[tactic(auto, using(crate::proofs::NodeLaws::numbers_laid, crate::proofs::NodeLaws::numbers_fit))]
 fn lay_numbers(t: &mut [u8], a: usize, n: Node)
     requires { a + 12 ≤ length t.old }
     ensures { (t.new ≡ over t.old a (number_bytes n)) × FitsNumbers n }
 {
-    layers::bytes::put_u32(t, a, n.number);
-    layers::bytes::put_u32(t, a + 4, n.parent);
-    layers::bytes::put_u32(t, a + 8, n.count);
+    layers::bytes::put_number(t, a, n.number);
+    layers::bytes::put_number(t, a + 4, n.parent);
+    layers::bytes::put_number(t, a + 8, n.count);
 }
 
+#[tactic(auto, unfolding(crate::specs::Nodes::pair_bytes))]
 fn pair_bytes(ps: [Pair; 4]) -> [u8; 8]
     ensures { (result ≡ pair_bytes ps) × (length ps ≡ 4) }
 {
-    let p = ps[0];
-    let q = ps[1];
-    let r = ps[2];
-    let t = ps[3];
+    let [p, q, r, t] = ps;
     [
         p.layer, p.number, q.layer, q.number, r.layer, r.number, t.layer, t.number,
     ]
 }
 
-fn lay_pairs(t: &mut [u8], a: usize, ps: [Pair; 4])
-    requires { a + 8 ≤ length t.old }
-    ensures { (t.new ≡ over t.old a (pair_bytes ps)) × (length ps ≡ 4) }
-{
-    let b = pair_bytes(ps);
-    layers::bytes::lay(t, a, &b);
-}
-
-fn lay_name(t: &mut [u8], a: usize, x: [u8; 28])
-    requires { a + 28 ≤ length t.old }
-    ensures { (t.new ≡ over t.old a x) × (length x ≡ 28) }
-{
-    layers::bytes::lay(t, a, &x);
-}
-
+#[tactic(auto, using(crate::proofs::NodeLaws::rest_laid, crate::proofs::NodeLaws::arrays_fit))]
 fn lay_rest(t: &mut [u8], a: usize, n: Node)
     requires { a + 40 ≤ length t.old }
     ensures { (t.new ≡ over t.old a (rest_bytes n)) × FitsArrays n }
 {
     let head = [n.white, n.loaded, n.depth, n.length];
-    let s = n.stack;
-    let x = n.name;
     layers::bytes::lay(t, a, &head);
-    lay_pairs(t, a + 4, s);
-    lay_name(t, a + 12, x);
+    layers::bytes::lay(t, a + 4, &pair_bytes(n.stack));
+    layers::bytes::lay(t, a + 12, &n.name);
 }
 
 // The node laid over the 52 bytes from `a` on; the contract hands on that its fields fit them.
+#[tactic(auto, using(crate::proofs::NodeLaws::node_laid, crate::proofs::NodeLaws::node_fits))]
 pub(crate) fn lay_node(t: &mut [u8], a: usize, n: Node)
     requires { a + 52 ≤ length t.old }
     ensures { (t.new ≡ over t.old a (node_bytes n)) × FitsNode n }

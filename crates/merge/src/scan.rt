@@ -3,61 +3,72 @@ ghost use Rattle.std.specs.Prelude.{◌≡◌, ◌+◌, ◌*◌, ◌≤◌, ◌<
 ghost use Rattle.layers.specs.Items.{entries_of, entry_at};
 ghost use Rattle.layers.specs.Order.{insert_by, spot_from};
 ghost use Rattle.layers.specs.Sorted.{Sorted};
-ghost use Rattle.merge.specs.Tables.{place_name};
-ghost use Rattle.merge.specs.Scan.{is_walked, ends_scan, in_directory};
+ghost use Rattle.merge.specs.Tables.{table_of, place_name};
+ghost use Rattle.merge.specs.Scan.{is_walked, IsWalked, ends_scan, in_directory};
 ghost use Rattle.merge.specs.Places.{add_place, merged_places, Filled};
 
 use crate::stacks::Pair;
 use crate::tables;
-use layers::names::Order;
-use layers::spots::Spot;
+use crate::tables::Layers;
+use layers::items::Table;
+use std::cmp::Ordering;
 
 // "stop before a whiteout or a non-directory"; a layer that is not there has no directory.
 pub fn is_walked(t: &[u8], d: u8) -> bool
     ensures { result ≡ is_walked t.now d }
 {
-    if t.len() != 8192 {
+    let Some(t) = t.as_array::<8192>() else {
         return false;
+    };
+    layers::search::kind_at(t, usize::from(d)) == 4
+}
+
+// The table of a directory that the scan walks.
+pub(crate) fn walked<'a>(ls: Layers<'a>, a: Pair) -> Option<&'a Table>
+    ensures { IsWalked (table_of ls.entry.upper.now ls.entry.lower.now a.layer) a.number result }
+{
+    let t = ls.table(usize::from(a.layer))?;
+    if is_walked(t, a.number) {
+        Some(t)
+    } else {
+        None
     }
-    layers::search::kind_at(t, layers::bytes::wide(d)) == 4
 }
 
 // "stop after an opaque one"
-pub fn ends_scan(t: &[u8], d: u8) -> bool
-    requires { length t.now ≡ 8192 }
+pub fn ends_scan(t: &Table, d: u8) -> bool
     ensures { result ≡ ends_scan t.now d }
 {
-    layers::items::record_at(t, layers::bytes::wide(d)).opaque == 1
+    layers::items::record_at(t, usize::from(d)).opaque == 1
 }
 
 // ---- places, kept in byte order of their names
 
 // Where the name `x` belongs among the first `n` places, found by halving.
-fn position<'a>(upper: &'a [u8], lower: &'a [u8], p: &[u16], n: usize, x: &[u8]) -> Spot
-    requires { (length p.now ≡ 512) × (n ≤ 512) × Sorted (place_name upper.now lower.now) (take n p.now) }
-    ensures { result ≡ spot_from (place_name upper.now lower.now) 0 x.now (take n p.now) }
+fn position(ls: Layers<'_>, p: &[u16], n: usize, x: &[u8]) -> Option<usize>
+    requires { (length p.now ≡ 512) × (n ≤ 512) × Sorted (place_name ls.upper.now ls.lower.now) (take n p.now) }
+    ensures { result ≡ spot_from (place_name ls.entry.upper.now ls.entry.lower.now) 0 x.now (take n p.now) }
 {
     let mut lo: usize = 0;
     let mut hi = n;
     while lo < hi {
         let mid = lo + (hi - lo) / 2;
-        let o = layers::names::compare(x, tables::place_name(upper, lower, p[mid]));
+        let o = layers::names::compare(x, ls.place_name(p[mid]));
         match o {
-            Order::Before => hi = mid,
-            Order::Same => return Spot::Taken,
-            Order::After => lo = mid + 1,
+            Ordering::Less => hi = mid,
+            Ordering::Equal => return None,
+            Ordering::Greater => lo = mid + 1,
         }
     }
-    Spot::Free(lo)
+    Some(lo)
 }
 
 // Puts the place `q` among the first `n`, which stand in order of their names; answers how many there are then.
-fn insert<'a>(upper: &'a [u8], lower: &'a [u8], p: &mut [u16], n: usize, q: u16) -> usize
-    requires { (length p.old ≡ 512) × (n < 512) × Sorted (place_name upper.now lower.now) (take n p.old) }
-    ensures { Filled p.old result (insert_by (place_name upper.now lower.now) q (take n p.old)) p.new × (n ≤ result) × (result ≤ n + 1) }
+fn insert(ls: Layers<'_>, p: &mut [u16], n: usize, q: u16) -> usize
+    requires { (length p.old ≡ 512) × (n < 512) × Sorted (place_name ls.upper.now ls.lower.now) (take n p.old) }
+    ensures { Filled p.old result (insert_by (place_name ls.entry.upper.now ls.entry.lower.now) q (take n p.old)) p.new × (n ≤ result) × (result ≤ n + 1) }
 {
-    let s = position(upper, lower, p, n, tables::place_name(upper, lower, q));
-    let Spot::Free(i) = s else {
+    let Some(i) = position(ls, p, n, ls.place_name(q)) else {
         return n;
     };
     layers::spots::put_in(p, n, i, q);
@@ -66,8 +77,7 @@ fn insert<'a>(upper: &'a [u8], lower: &'a [u8], p: &mut [u16], n: usize, q: u16)
 
 // ---- the scan
 
-pub(crate) fn in_directory(t: &[u8], j: usize, d: u8) -> bool
-    requires { length t.now ≡ 8192 }
+pub(crate) fn in_directory(t: &Table, j: usize, d: u8) -> bool
     ensures { result ≡ in_directory d (entry_at (entries_of t.now) j) }
 {
     let p = layers::search::parent_at(t, j);
@@ -78,21 +88,12 @@ pub(crate) fn in_directory(t: &[u8], j: usize, d: u8) -> bool
 }
 
 // Adds the place `q` of the entry `j` where that stands in the directory `d`.
-fn add_place<'a>(
-    upper: &'a [u8],
-    lower: &'a [u8],
-    p: &mut [u16],
-    n: usize,
-    t: &[u8],
-    j: usize,
-    d: u8,
-    q: u16,
-) -> usize
-    requires { (length p.old ≡ 512) × (n < 512) × (length t.now ≡ 8192) × Sorted (place_name upper.now lower.now) (take n p.old) }
-    ensures { Filled p.old result (add_place (place_name upper.now lower.now) d q (entry_at (entries_of t.now) j) (take n p.old)) p.new × (n ≤ result) × (result ≤ n + 1) }
+fn add_place(ls: Layers<'_>, p: &mut [u16], n: usize, t: &Table, j: usize, d: u8, q: u16) -> usize
+    requires { (length p.old ≡ 512) × (n < 512) × Sorted (place_name ls.upper.now ls.lower.now) (take n p.old) }
+    ensures { Filled p.old result (add_place (place_name ls.entry.upper.now ls.entry.lower.now) d q (entry_at (entries_of t.now) j) (take n p.old)) p.new × (n ≤ result) × (result ≤ n + 1) }
 {
     if in_directory(t, j, d) {
-        return insert(upper, lower, p, n, q);
+        return insert(ls, p, n, q);
     }
     n
 }
@@ -105,41 +106,21 @@ fn place_of(k: u8, j: usize) -> u16
 }
 
 // Fills `p` with the places that stand for the names below the first `len` of the stack `s`; answers how many.
-pub fn scan_childrens<'a>(
-    upper: &'a [u8],
-    lower: &'a [u8],
-    s: [Pair; 4],
-    len: usize,
-    p: &mut [u16],
-) -> usize
+pub fn scan_childrens(ls: Layers<'_>, s: [Pair; 4], len: usize, p: &mut [u16]) -> usize
     requires { length p.old ≡ 512 }
-    ensures { Filled p.old result (merged_places upper.now lower.now (take len s)) p.new × (result ≤ 512) }
+    ensures { Filled p.old result (merged_places ls.entry.upper.now ls.entry.lower.now (take len s)) p.new × (result ≤ 512) }
 {
-    let mut n: usize = 0;
-    let mut i: usize = 0;
-    'scan: while i < len {
-        if i == 4 {
-            break 'scan;
-        }
+    let mut n = 0;
+    for i in 0..len.min(4) {
         let a = s[i];
-        let k = a.layer;
-        let d = a.number;
-        let t = tables::table_at(upper, lower, layers::bytes::wide(k));
-        if is_walked(t, d) {
-            let mut j: usize = 0;
-            loop {
-                if j == 128 {
-                    if ends_scan(t, d) {
-                        break 'scan;
-                    }
-                    break;
-                }
-                n = add_place(upper, lower, p, n, t, j, d, place_of(k, j));
-                j += 1;
-            }
-            i += 1;
-        } else {
-            break 'scan;
+        let Some(t) = walked(ls, a) else {
+            return n;
+        };
+        for j in 0..128 {
+            n = add_place(ls, p, n, t, j, a.number, place_of(a.layer, j));
+        }
+        if ends_scan(t, a.number) {
+            return n;
         }
     }
     n

@@ -3,42 +3,33 @@ ghost use Rattle.std.specs.Prelude.{◌≡◌};
 ghost use Rattle.merge.specs.Nodes.{nodes_of};
 ghost use Rattle.merge.specs.Seats.{seat_of, holder};
 
-use crate::{head, state};
-use layers::names::Order;
-use layers::search::Found;
+use crate::state;
+use std::cmp::Ordering;
 
-#[derive(Clone, Copy)]
-pub enum Seat {
-    // The place of the name's node.
-    Held(usize),
-    // Where a new node of the name belongs.
-    Open(usize),
-}
-
-// The seat of the name `x` below the node of number `p`.
-pub fn seat_of(s: &[u8], p: u64, x: &[u8]) -> Seat
+// The seat of the name `x` below the node of number `p`: the place of its node, or else where a new one belongs.
+// A loop and no `binary_search_by`: that promises nothing where nodes are out of order, and `seat_of` of specs/ speaks of any bytes.
+pub fn seat_of(s: &[u8], p: u64, x: &[u8]) -> Result<usize, usize>
     ensures { result ≡ seat_of (nodes_of s.now) p x.now }
 {
+    let ns = state::nodes(s);
     let w = state::lead_of(x);
     let mut lo: usize = 0;
-    let mut hi = head::count(s);
+    let mut hi = ns.len();
     while lo < hi {
         let mid = lo + (hi - lo) / 2;
-        match state::order_at(s, mid, p, x, w) {
-            Order::Before => hi = mid,
-            Order::Same => return Seat::Held(mid),
-            Order::After => lo = mid + 1,
+        match state::order_at(&ns[mid], p, x, w) {
+            Ordering::Less => hi = mid,
+            Ordering::Equal => return Ok(mid),
+            Ordering::Greater => lo = mid + 1,
         }
     }
-    Seat::Open(lo)
+    Err(lo)
 }
 
 // The place of the name's node.
-pub fn holder(t: Seat) -> Found
+#[tactic(auto, unfolding(crate::specs::Seats::holder))]
+pub fn holder(t: Result<usize, usize>) -> Option<usize>
     ensures { result ≡ holder t }
 {
-    match t {
-        Seat::Held(k) => Found::At(k),
-        Seat::Open(_) => Found::Missing,
-    }
+    t.ok()
 }

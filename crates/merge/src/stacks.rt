@@ -1,7 +1,6 @@
 // The merged stack of one name.
-ghost use Rattle.std.specs.Prelude.{◌≡◌, ◌+◌, ◌≤◌, ◌<◌, length, take, get_or, false};
+ghost use Rattle.std.specs.Prelude.{◌≡◌, ◌+◌, ◌≤◌, ◌<◌, length, take, get_or, false, Some};
 ghost use Rattle.layers.specs.Items.{entries_of};
-ghost use Rattle.layers.specs.declared.search.Found.TheVariants.{At};
 ghost use Rattle.merge.specs.Classes.{is_whiteout, class_of, class_at, named, seen_of};
 ghost use Rattle.merge.specs.Nodes.{no_pair};
 ghost use Rattle.merge.specs.Tables.{table_of, place_name};
@@ -11,9 +10,9 @@ ghost use Rattle.merge.specs.Stacks.{pair, stack_from, merged_stack};
 ghost use Rattle.merge.specs.Fresh.{root_stack};
 ghost use Rattle.merge.specs.Pushes.{no_stack, push, marked, with_real, with_seen, ends_merge, ends_seen};
 
-use crate::{scan, tables};
-use layers::items::Record;
-use layers::search::Found;
+use crate::scan;
+use crate::tables::Layers;
+use layers::items::{Record, Table};
 
 // A record of a layer: layer 0 is the upper one, 1 to 3 are the lower ones in order.
 #[derive(Clone, Copy)]
@@ -29,13 +28,6 @@ pub enum Class {
     Other,
     Plain,
     Opaque,
-}
-
-// What a layer has under a name in one of its directories.
-#[derive(Clone, Copy)]
-pub enum Seen {
-    Nothing,
-    There(Class, u8),
 }
 
 // "a stack of 4 places with a length", topmost first; places past the length are 0. The mark is that of the first record.
@@ -73,28 +65,25 @@ fn class_of(r: Record) -> Class
 }
 
 // The class of the record `n`, an entry of the directory `d` naming it.
-pub fn class_at(t: &[u8], d: u8, n: u8) -> Class
-    requires { length t.now ≡ 8192 }
+pub fn class_at(t: &Table, d: u8, n: u8) -> Class
     ensures { result ≡ class_at t.now d n }
 {
-    class_of(layers::items::record_at(t, layers::bytes::wide(n)))
+    class_of(layers::items::record_at(t, usize::from(n)))
 }
 
 // The record that `x` has in the directory `d`, 0 for none.
-pub fn named_in(t: &[u8], d: u8, x: &[u8]) -> u8
-    requires { length t.now ≡ 8192 }
+pub fn named_in(t: &Table, d: u8, x: &[u8]) -> u8
     ensures { result ≡ named (entries_of t.now) d x.now }
 {
-    let f = layers::search::search(t, d, x);
-    let Found::At(j) = f else {
+    let Some(j) = layers::search::search(t, d, x) else {
         return 0;
     };
     layers::search::child_at(t, j)
 }
 
 // The same, where the entry is `j` if that is below 128.
-fn named_known(t: &[u8], d: u8, x: &[u8], j: usize) -> u8
-    requires { (length t.now ≡ 8192) × Known (entries_of t.now) d x.now j }
+fn named_known(t: &Table, d: u8, x: &[u8], j: usize) -> u8
+    requires { Known (entries_of t.now) d x.now j }
     ensures { result ≡ named (entries_of t.now) d x.now }
 {
     if j < 128 {
@@ -104,20 +93,19 @@ fn named_known(t: &[u8], d: u8, x: &[u8], j: usize) -> u8
 }
 
 // What `x` is in the directory `d`, where its entry is `j` if that is below 128.
-fn seen_known(t: &[u8], d: u8, x: &[u8], j: usize) -> Seen
-    requires { (length t.now ≡ 8192) × Known (entries_of t.now) d x.now j }
+fn seen_known(t: &Table, d: u8, x: &[u8], j: usize) -> Option<(Class, u8)>
+    requires { Known (entries_of t.now) d x.now j }
     ensures { result ≡ seen_of t.now d x.now }
 {
     let n = named_known(t, d, x, j);
     if n == 0 {
-        return Seen::Nothing;
+        return None;
     }
-    Seen::There(class_at(t, d, n), n)
+    Some((class_at(t, d, n), n))
 }
 
 // What `x` is in the directory `d`.
-pub fn seen_in(t: &[u8], d: u8, x: &[u8]) -> Seen
-    requires { length t.now ≡ 8192 }
+pub fn seen_in(t: &Table, d: u8, x: &[u8]) -> Option<(Class, u8)>
     ensures { result ≡ seen_of t.now d x.now }
 {
     seen_known(t, d, x, 128)
@@ -181,13 +169,13 @@ fn with_real(s: Stack, k: u8, n: u8, c: Class) -> Stack
     }
 }
 
-fn with_seen(s: Stack, k: u8, f: Seen) -> Stack
+fn with_seen(s: Stack, k: u8, f: Option<(Class, u8)>) -> Stack
     requires { s.length < 4 }
     ensures { (result ≡ with_seen s k f) × (result.length ≤ s.length + 1) }
 {
     match f {
-        Seen::Nothing => s,
-        Seen::There(c, n) => with_real(s, k, n, c),
+        None => s,
+        Some((c, n)) => with_real(s, k, n, c),
     }
 }
 
@@ -203,124 +191,83 @@ fn ends_merge(c: Class) -> bool
     }
 }
 
-fn ends_seen(f: Seen) -> bool
+fn ends_seen(f: Option<(Class, u8)>) -> bool
     ensures { result ≡ ends_seen f }
 {
     match f {
-        Seen::Nothing => false,
-        Seen::There(c, _) => ends_merge(c),
+        None => false,
+        Some((c, _)) => ends_merge(c),
     }
 }
 
 // The merged stack of the name `x` below the first `len` of the stack `s`: each scanned directory's record of that name, put in until one ends it.
 // No directory before place `b` has the name, and its entry in that one is `e` if that is below 128.
-fn stack_from<'a>(
-    upper: &'a [u8],
-    lower: &'a [u8],
-    s: [Pair; 4],
-    len: usize,
-    x: &[u8],
-    b: usize,
-    e: usize,
-) -> Stack
-    requires { (b ≤ 4) × Above upper.now lower.now (take len s) x.now b × Known (entries_of (table_of upper.now lower.now (get_or s b no_pair).layer)) (get_or s b no_pair).number x.now e }
-    ensures { (result ≡ merged_stack upper.now lower.now (take len s) x.now) × (result.length ≤ 4) }
+fn stack_from(ls: Layers<'_>, s: [Pair; 4], len: usize, x: &[u8], b: usize, e: usize) -> Stack
+    requires { (b ≤ 4) × Above ls.upper.now ls.lower.now (take len s) x.now b × Known (entries_of (table_of ls.upper.now ls.lower.now (get_or s b no_pair).layer)) (get_or s b no_pair).number x.now e }
+    ensures { (result ≡ merged_stack ls.entry.upper.now ls.entry.lower.now (take len s) x.now) × (result.length ≤ 4) }
 {
     let mut out = no_stack();
     let mut j = e;
-    let mut i = b;
-    while i < len {
-        if i == 4 {
-            return out;
-        }
+    for i in b..len.min(4) {
         let a = s[i];
-        let k = a.layer;
-        let d = a.number;
-        let t = tables::table_at(upper, lower, layers::bytes::wide(k));
-        if scan::is_walked(t, d) {
-            let f = seen_known(t, d, x, j);
-            out = with_seen(out, k, f);
-            if ends_seen(f) {
-                return out;
-            }
-            if scan::ends_scan(t, d) {
-                return out;
-            }
-            j = 128;
-            i += 1;
-        } else {
+        let Some(t) = scan::walked(ls, a) else {
+            return out;
+        };
+        let f = seen_known(t, a.number, x, j);
+        out = with_seen(out, a.layer, f);
+        if ends_seen(f) {
             return out;
         }
+        if scan::ends_scan(t, a.number) {
+            return out;
+        }
+        j = 128;
     }
     out
 }
 
 // The same, from the top of the stack on.
-pub fn new_from_real_inodes<'a>(
-    upper: &'a [u8],
-    lower: &'a [u8],
-    s: [Pair; 4],
-    len: usize,
-    x: &[u8],
-) -> Stack
-    ensures { (result ≡ merged_stack upper.now lower.now (take len s) x.now) × (result.length ≤ 4) }
+pub fn new_from_real_inodes(ls: Layers<'_>, s: [Pair; 4], len: usize, x: &[u8]) -> Stack
+    ensures { (result ≡ merged_stack ls.entry.upper.now ls.entry.lower.now (take len s) x.now) × (result.length ≤ 4) }
 {
-    stack_from(upper, lower, s, len, x, 0, 128)
+    stack_from(ls, s, len, x, 0, 128)
 }
 
 // Whether the entry at the place `q` of all layers stands in the directory `d` of layer `k`.
-fn holds_place<'a>(upper: &'a [u8], lower: &'a [u8], k: u8, d: u8, q: u16) -> bool
-    ensures { result ≡ holds_place upper.now lower.now k d q }
+fn holds_place(ls: Layers<'_>, k: u8, d: u8, q: u16) -> bool
+    ensures { result ≡ holds_place ls.entry.upper.now ls.entry.lower.now k d q }
 {
     if k as u16 != q / 128 {
         return false;
     }
-    let t = tables::table_at(upper, lower, layers::bytes::wide(k));
-    if t.len() != 8192 {
+    let Some(t) = ls.table(usize::from(k)) else {
         return false;
-    }
-    scan::in_directory(t, (q % 128) as usize, d)
+    };
+    scan::in_directory(t, usize::from(q % 128), d)
 }
 
 // The same for a name `x` that the scan found at the place `q`: from the directory of that place on, by its entry.
-pub(crate) fn new_from_place<'a>(
-    upper: &'a [u8],
-    lower: &'a [u8],
-    s: [Pair; 4],
-    len: usize,
-    x: &[u8],
-    q: u16,
-) -> Stack
-    requires { (x.now ≡ place_name upper.now lower.now q) × (top_place upper.now lower.now x.now (scanned upper.now lower.now (take len s)) ≡ At q) }
-    ensures { (result ≡ merged_stack upper.now lower.now (take len s) x.now) × (result.length ≤ 4) }
+pub(crate) fn new_from_place(ls: Layers<'_>, s: [Pair; 4], len: usize, x: &[u8], q: u16) -> Stack
+    requires { (x.now ≡ place_name ls.upper.now ls.lower.now q) × (top_place ls.upper.now ls.lower.now x.now (scanned ls.upper.now ls.lower.now (take len s)) ≡ Some q) }
+    ensures { (result ≡ merged_stack ls.entry.upper.now ls.entry.lower.now (take len s) x.now) × (result.length ≤ 4) }
 {
-    let mut i: usize = 0;
-    while i < len {
-        if i == 4 {
-            return new_from_real_inodes(upper, lower, s, len, x);
-        }
+    for i in 0..len.min(4) {
         let a = s[i];
-        if holds_place(upper, lower, a.layer, a.number, q) {
-            return stack_from(upper, lower, s, len, x, i, (q % 128) as usize);
+        if holds_place(ls, a.layer, a.number, q) {
+            return stack_from(ls, s, len, x, i, usize::from(q % 128));
         }
-        i += 1;
     }
-    new_from_real_inodes(upper, lower, s, len, x)
+    new_from_real_inodes(ls, s, len, x)
 }
 
 // The root's stack: every layer's root, topmost first.
-pub fn root_stack<'a>(upper: &'a [u8], lower: &'a [u8]) -> Stack
-    ensures { (result ≡ stack_from (root_stack upper.now lower.now) false) × (result.length ≤ 4) }
+pub fn root_stack(ls: Layers<'_>) -> Stack
+    ensures { (result ≡ stack_from (root_stack ls.entry.upper.now ls.entry.lower.now) false) × (result.length ≤ 4) }
 {
     let mut out = no_stack();
-    let mut k: u8 = 0;
-    while k < 4 {
-        let t = tables::table_at(upper, lower, layers::bytes::wide(k));
-        if t.len() == 8192 {
+    for k in 0..4 {
+        if ls.table(usize::from(k)).is_some() {
             out = pushed(out, k, 1);
-            k += 1;
-        } else {
-            k += 1;
         }
     }
     out

@@ -1,162 +1,139 @@
-// Tables and nodes printed in the plain form of docs/REPLAY.md, a line each.
+// Tables and nodes in the plain form of docs/REPLAY.md, a line each.
 use layers::items::{Entry, Record};
-use layers::kinds::Kind;
+use layers::kinds::{Kind, NoKind};
 use merge::node::Node;
-use merge::stacks::Pair;
-use text::memory::first;
+use std::fmt;
+use text::memory;
+use text::stacks::Stack;
 
-pub fn say(s: &[u8]) {
-    io::write_all(1, s);
+fn is_plain(byte: u8) -> bool {
+    byte.is_ascii_graphic() && byte != b'\\'
 }
 
-pub fn say_number(n: u64) {
-    io::print_decimal(1, n);
-}
+// A name: a byte that is no plain character prints as a backslash and two hexadecimal digits.
+#[derive(Clone, Copy)]
+pub struct Name<'a>(pub &'a [u8]);
 
-fn is_plain(c: u8) -> bool {
-    if c <= b' ' {
-        return false;
-    }
-    if c == b'\\' {
-        return false;
-    }
-    c < 127
-}
-
-// A byte of a name: itself, or a backslash and two hexadecimal digits.
-fn say_byte(c: u8) {
-    if is_plain(c) {
-        let b = [c];
-        say(&b);
-        return;
-    }
-    say(b"\\");
-    io::print_hex(1, c as u64, 2);
-}
-
-pub fn say_name(x: &[u8]) {
-    let mut i = 0;
-    while i < x.len() {
-        say_byte(x[i]);
-        i += 1;
-    }
-}
-
-fn say_field(name: &[u8], n: u64) {
-    if n == 0 {
-        return;
-    }
-    say(b" ");
-    say(name);
-    say(b" ");
-    say_number(n);
-}
-
-fn say_kind(n: u8) {
-    match layers::kinds::kind_of(n) {
-        Kind::Fifo => say(b"fifo"),
-        Kind::Character => say(b"character"),
-        Kind::Directory => say(b"directory"),
-        Kind::Block => say(b"block"),
-        Kind::Regular => say(b"regular"),
-        Kind::Symlink => say(b"symlink"),
-        Kind::Socket => say(b"socket"),
-        Kind::NoKind => say_number(n as u64),
-    }
-}
-
-fn say_octal_digit(n: u16) {
-    let b = [(n % 8) as u8 + b'0'];
-    say(&b);
-}
-
-fn say_permissions(n: u16) {
-    say(b" 0");
-    if 511 < n {
-        say_octal_digit(n / 512);
-    }
-    say_octal_digit(n / 64);
-    say_octal_digit(n / 8);
-    say_octal_digit(n);
-}
-
-// A record as the text form has it; what is 0 is left out.
-pub fn say_record(i: usize, r: Record) {
-    say(b"  record ");
-    say_number(i as u64);
-    say(b" ");
-    say_kind(r.kind);
-    say_permissions(r.permissions);
-    say_field(b"opaque", r.opaque as u64);
-    say_field(b"device", r.device);
-    say_field(b"size", r.size);
-    say_field(b"content", r.content);
-    say(b"\n");
-}
-
-// A name of 28 bytes, as many as its length says; the root's, which is empty, prints as a slash.
-fn say_field_name(x: [u8; 28], n: u8) {
-    if n == 0 {
-        say(b"/");
-        return;
-    }
-    say_name(first(&x, layers::bytes::wide(n)));
-}
-
-pub fn say_entry(j: usize, e: Entry) {
-    let x = e.name;
-    say(b"  entry ");
-    say_number(j as u64);
-    say(b" ");
-    say_number(e.parent as u64);
-    say(b" ");
-    say_number(e.child as u64);
-    say(b" ");
-    say_field_name(x, e.length);
-    say(b"\n");
-}
-
-fn say_pair(p: Pair) {
-    say(b" ");
-    say_number(p.layer as u64);
-    say(b":");
-    say_number(p.number as u64);
-}
-
-// The first `n` of a stack, topmost first, each as layer and record.
-fn say_stack(a: [Pair; 4], n: usize) {
-    let mut i: usize = 0;
-    say(b" stack");
-    while i < n {
-        if i == 4 {
-            return;
+impl fmt::Display for Name<'_> {
+    fn fmt<W: fmt::Write>(&self, f: &mut fmt::Formatter<W>) -> fmt::Result {
+        for byte in self.0 {
+            if is_plain(*byte) {
+                write!(f, "{}", char::from(*byte))?;
+            } else {
+                write!(f, "\\{byte:02x}")?;
+            }
         }
-        say_pair(a[i]);
-        i += 1;
+        Ok(())
     }
 }
 
-fn say_marks(n: Node) {
-    if n.white != 0 {
-        say(b" whiteout");
+// Of a name's field as many bytes as its length says; the root's, which is empty, prints as a slash.
+fn name_of(field: &[u8; 28], length: u8) -> Name<'_> {
+    if length == 0 {
+        return Name(b"/");
     }
-    if n.loaded != 0 {
-        say(b" loaded");
+    Name(memory::first(field, usize::from(length)))
+}
+
+fn kind_word(kind: Kind) -> &'static str {
+    match kind {
+        Kind::Fifo => "fifo",
+        Kind::Character => "character",
+        Kind::Directory => "directory",
+        Kind::Block => "block",
+        Kind::Regular => "regular",
+        Kind::Symlink => "symlink",
+        Kind::Socket => "socket",
     }
 }
 
-pub fn say_node(n: Node) {
-    let x = n.name;
-    say(b"  node ");
-    say_number(n.number as u64);
-    say(b" in ");
-    say_number(n.parent as u64);
-    say(b" count ");
-    say_number(n.count as u64);
-    let s = n.stack;
-    say_stack(s, layers::bytes::wide(n.depth));
-    say_marks(n);
-    say(b" name ");
-    say_field_name(x, n.length);
-    say(b"\n");
+// A record's kind: its word, or the number that is no kind's.
+#[derive(Clone, Copy)]
+struct KindNumber(u8);
+
+impl fmt::Display for KindNumber {
+    fn fmt<W: fmt::Write>(&self, f: &mut fmt::Formatter<W>) -> fmt::Result {
+        match Kind::try_from(self.0) {
+            Ok(kind) => f.write_str(kind_word(kind)),
+            Err(NoKind(number)) => write!(f, "{number}"),
+        }
+    }
+}
+
+// Permissions in octal: three digits, or the lowest four where there are more.
+#[derive(Clone, Copy)]
+struct Permissions(u16);
+
+impl fmt::Display for Permissions {
+    fn fmt<W: fmt::Write>(&self, f: &mut fmt::Formatter<W>) -> fmt::Result {
+        if self.0 < 0o1000 {
+            write!(f, "0{:03o}", self.0)
+        } else {
+            write!(f, "0{:04o}", self.0 % 0o10000)
+        }
+    }
+}
+
+// A record at its place, as the text form has it; what is 0 is left out.
+#[derive(Clone, Copy)]
+pub struct PlacedRecord(pub usize, pub Record);
+
+impl fmt::Display for PlacedRecord {
+    fn fmt<W: fmt::Write>(&self, f: &mut fmt::Formatter<W>) -> fmt::Result {
+        let r = self.1;
+        write!(
+            f,
+            "record {} {} {}",
+            self.0,
+            KindNumber(r.kind),
+            Permissions(r.permissions)
+        )?;
+        for (name, value) in [
+            ("opaque", u64::from(r.opaque)),
+            ("device", r.device),
+            ("size", r.size),
+            ("content", r.content),
+        ] {
+            if value != 0 {
+                write!(f, " {name} {value}")?;
+            }
+        }
+        Ok(())
+    }
+}
+
+// An entry at its place.
+#[derive(Clone, Copy)]
+pub struct PlacedEntry(pub usize, pub Entry);
+
+impl fmt::Display for PlacedEntry {
+    fn fmt<W: fmt::Write>(&self, f: &mut fmt::Formatter<W>) -> fmt::Result {
+        let e = self.1;
+        write!(
+            f,
+            "entry {} {} {} {}",
+            self.0,
+            e.parent,
+            e.child,
+            name_of(&e.name, e.length)
+        )
+    }
+}
+
+#[derive(Clone, Copy)]
+pub struct ShownNode(pub Node);
+
+impl fmt::Display for ShownNode {
+    fn fmt<W: fmt::Write>(&self, f: &mut fmt::Formatter<W>) -> fmt::Result {
+        let n = self.0;
+        let stack = Stack(memory::first(&n.stack, usize::from(n.depth)));
+        let white = if n.white != 0 { " whiteout" } else { "" };
+        let loaded = if n.loaded != 0 { " loaded" } else { "" };
+        write!(
+            f,
+            "node {} in {} count {} {stack}{white}{loaded}",
+            n.number, n.parent, n.count
+        )?;
+        write!(f, " name {}", name_of(&n.name, n.length))
+    }
 }

@@ -1,107 +1,119 @@
 // The calls that write the upper layer, each from its line.
-use crate::answers::{say_errno, say_value};
-use text::memory::first;
-use text::words;
+use crate::answer::Answer;
+use crate::command::Child;
+use calls::face;
+use std::io::{Result, Write};
+use text::{encode, words};
 
-fn small(line: &[u8], k: usize) -> u32 {
-    (words::number_at(line, k) % 4294967296) as u32
+// The permissions that a creation is given, and what its umask takes away.
+#[derive(Clone, Copy)]
+pub struct Mode {
+    permissions: u32,
+    umask: u32,
+}
+
+// What a creation makes.
+#[derive(Clone, Copy)]
+pub enum New {
+    Node { kind: u32, mode: Mode, device: u64 },
+    File(Mode),
+    Symlink(u64),
+}
+
+#[derive(Drop)]
+pub enum Writing {
+    Create(Child, New),
+    Link(u64, Child),
+    CopyUp(u64),
+}
+
+fn small(w: &[u8]) -> u32 {
+    (words::number(w) & 0xffff_ffff) as u32
+}
+
+impl Mode {
+    fn new(permissions: &[u8], umask: &[u8]) -> Mode {
+        Mode {
+            permissions: small(permissions),
+            umask: small(umask),
+        }
+    }
 }
 
 // A kind, by its word or its number.
-fn kind(line: &[u8], k: usize) -> u32 {
-    let n = small(line, k);
-    if n == 0 {
-        return text::encode::kind_named(words::word(line, k)) as u32;
+fn kind(w: &[u8]) -> u32 {
+    match small(w) {
+        0 => u32::from(encode::kind_named(w)),
+        number => number,
     }
-    n
 }
 
-// `mknod PARENT NAME KIND PERMISSIONS UMASK DEVICE`; the kind is a word or a number.
-fn mknod(s: &mut [u8], upper: &mut [u8], lower: &[u8], line: &[u8]) {
-    let mut x = [0u8; 64];
-    let n = text::encode::name(words::word(line, 2), &mut x);
-    let r = calls::face::overlay_mknod(
-        s,
-        upper,
-        lower,
-        words::number_at(line, 1),
-        first(&x, n),
-        kind(line, 3),
-        small(line, 4),
-        small(line, 5),
-        words::number_at(line, 6),
-    );
-    say_value(r, b"node");
+fn create(state: &mut [u8], upper: &mut [u8], lower: &[u8], child: &Child, new: New) -> u64 {
+    let parent = child.parent;
+    let name = child.name.as_slice();
+    match new {
+        New::Node { kind, mode, device } => face::overlay_mknod(
+            state,
+            upper,
+            lower,
+            parent,
+            name,
+            kind,
+            mode.permissions,
+            mode.umask,
+            device,
+        ),
+        New::File(mode) => {
+            let Mode { permissions, umask } = mode;
+            face::overlay_create(state, upper, lower, parent, name, permissions, umask)
+        }
+        New::Symlink(content) => {
+            face::overlay_symlink(state, upper, lower, parent, name, content)
+        }
+    }
 }
 
-// `create PARENT NAME PERMISSIONS UMASK`.
-fn create(s: &mut [u8], upper: &mut [u8], lower: &[u8], line: &[u8]) {
-    let mut x = [0u8; 64];
-    let n = text::encode::name(words::word(line, 2), &mut x);
-    let r = calls::face::overlay_create(
-        s,
-        upper,
-        lower,
-        words::number_at(line, 1),
-        first(&x, n),
-        small(line, 3),
-        small(line, 4),
-    );
-    say_value(r, b"node");
-}
+impl Writing {
+    // The call that a line says.
+    pub fn parse(line: &[u8]) -> Option<Writing> {
+        let word = |k| words::word(line, k);
+        let number = words::number(word(1));
+        let child = Child::new(word(1), word(2));
+        Some(match word(0) {
+            b"mknod" => {
+                let new = New::Node {
+                    kind: kind(word(3)),
+                    mode: Mode::new(word(4), word(5)),
+                    device: words::number(word(6)),
+                };
+                Writing::Create(child, new)
+            }
+            b"create" => Writing::Create(child, New::File(Mode::new(word(3), word(4)))),
+            b"symlink" => Writing::Create(child, New::Symlink(words::number(word(3)))),
+            b"link" => Writing::Link(number, Child::new(word(2), word(3))),
+            b"copy_up" => Writing::CopyUp(number),
+            _ => return None,
+        })
+    }
 
-// `symlink PARENT NAME CONTENT`.
-fn symlink(s: &mut [u8], upper: &mut [u8], lower: &[u8], line: &[u8]) {
-    let mut x = [0u8; 64];
-    let n = text::encode::name(words::word(line, 2), &mut x);
-    let r = calls::face::overlay_symlink(
-        s,
-        upper,
-        lower,
-        words::number_at(line, 1),
-        first(&x, n),
-        words::number_at(line, 3),
-    );
-    say_value(r, b"node");
-}
-
-// `link SOURCE PARENT NAME`.
-fn link(s: &mut [u8], upper: &mut [u8], lower: &[u8], line: &[u8]) {
-    let mut x = [0u8; 64];
-    let n = text::encode::name(words::word(line, 3), &mut x);
-    let r = calls::face::overlay_link(
-        s,
-        upper,
-        lower,
-        words::number_at(line, 1),
-        words::number_at(line, 2),
-        first(&x, n),
-    );
-    say_value(r, b"node");
-}
-
-// A line that is such a call; true where it was one.
-pub fn write(s: &mut [u8], upper: &mut [u8], lower: &[u8], line: &[u8]) -> bool {
-    let verb = words::word(line, 0);
-    if words::is_word(verb, b"mknod") {
-        mknod(s, upper, lower, line);
-        return true;
+    // Makes the call and prints its answer.
+    pub fn make(
+        self,
+        out: &mut impl Write,
+        state: &mut [u8],
+        upper: &mut [u8],
+        lower: &[u8],
+    ) -> Result<()> {
+        let answer = match self {
+            Writing::Create(child, new) => Answer::Node(create(state, upper, lower, &child, new)),
+            Writing::Link(source, child) => {
+                let name = child.name.as_slice();
+                Answer::Node(face::overlay_link(state, upper, lower, source, child.parent, name))
+            }
+            Writing::CopyUp(node) => {
+                Answer::Errno(face::overlay_copy_up(state, upper, lower, node))
+            }
+        };
+        writeln!(out, "{answer}")
     }
-    if words::is_word(verb, b"create") {
-        create(s, upper, lower, line);
-        return true;
-    }
-    if words::is_word(verb, b"symlink") {
-        symlink(s, upper, lower, line);
-        return true;
-    }
-    if words::is_word(verb, b"link") {
-        link(s, upper, lower, line);
-        return true;
-    }
-    if words::is_word(verb, b"copy_up") {
-        say_errno(calls::face::overlay_copy_up(s, upper, lower, words::number_at(line, 1)));
-        return true;
-    }
-    false
 }

@@ -1,220 +1,153 @@
 // A line of text put into a table.
-ghost use Rattle.std.specs.Prelude.{◌≤◌};
+ghost use Rattle.std.specs.Prelude.{◌∷◌, ◌++◌, [], OnOk, codes};
+ghost use Rattle.std.specs.Io.KnownBytes.{Appends};
 
-use crate::{memory, words};
+use crate::{memory, names, output, words};
 use layers::items::{Entry, Record};
+use layers::kinds::Kind;
+use std::error::Error;
+use std::{fmt, io};
 
-// What became of a line.
-#[derive(Clone, Copy)]
-pub enum Put {
-    Done,
-    NoSuchLine,
+// A line that puts nothing into a table.
+#[derive(Clone, Copy, Debug, PartialEq, Eq)]
+pub struct NoSuchLine<'a> {
+    pub line: &'a [u8],
 }
 
-// The kind that a word names: its name, or its dirent type number.
+impl fmt::Display for NoSuchLine<'_> {
+    fn fmt<W: fmt::Write>(&self, f: &mut fmt::Formatter<W>) -> fmt::Result {
+        f.write_str("no such line")
+    }
+}
+
+impl Error for NoSuchLine<'_> {}
+
+impl NoSuchLine<'_> {
+    // The error with the line, whose bytes need not be text.
+    pub fn write_to<W: io::Write>(&self, out: &mut W) -> io::Result<()>
+        ensures { OnOk result (Appends (W.contents out.old) (W.contents out.new) (codes "no such line: " ++ (self.now.line.now ++ 10 ∷ []))) }
+    {
+        out.write_all(b"no such line: ")?;
+        output::write_line(out, self.line)
+    }
+}
+
+// The kind of that name.
+fn kind_of_name(w: &[u8]) -> Option<Kind> {
+    match w {
+        b"fifo" => Some(Kind::Fifo),
+        b"character" => Some(Kind::Character),
+        b"directory" => Some(Kind::Directory),
+        b"block" => Some(Kind::Block),
+        b"regular" => Some(Kind::Regular),
+        b"symlink" => Some(Kind::Symlink),
+        b"socket" => Some(Kind::Socket),
+        _ => None,
+    }
+}
+
+// The kind that a word names: its name, or its dirent type number, which may be no kind's.
 pub fn kind_named(w: &[u8]) -> u8 {
-    if words::is_word(w, b"fifo") {
-        return 1;
-    }
-    if words::is_word(w, b"character") {
-        return 2;
-    }
-    if words::is_word(w, b"directory") {
-        return 4;
-    }
-    if words::is_word(w, b"block") {
-        return 6;
-    }
-    if words::is_word(w, b"regular") {
-        return 8;
-    }
-    if words::is_word(w, b"symlink") {
-        return 10;
-    }
-    if words::is_word(w, b"socket") {
-        return 12;
-    }
-    words::byte(w)
+    kind_of_name(w).map_or_else(|| words::byte(w), u8::from)
 }
 
-// One of the record's 8-byte fields by its name.
-fn with_wide(r: Record, key: &[u8], value: &[u8]) -> Record {
-    let mut m = r;
-    if words::is_word(key, b"device") {
-        m.device = words::number(value);
-        return m;
+// One of the record's fields, by its name; another name changes nothing.
+fn set_field(r: &mut Record, key: &[u8], value: &[u8]) {
+    match key {
+        b"number" => r.number = words::byte(value),
+        b"opaque" => r.opaque = words::byte(value),
+        b"mark" => r.mark = words::byte(value),
+        b"links" => r.links = words::small(value),
+        b"device" => r.device = words::number(value),
+        b"size" => r.size = words::number(value),
+        b"content" => r.content = words::number(value),
+        _ => {}
     }
-    if words::is_word(key, b"size") {
-        m.size = words::number(value);
-        return m;
-    }
-    if words::is_word(key, b"content") {
-        m.content = words::number(value);
-        return m;
-    }
-    m
 }
 
-// One of the record's other fields by its name.
-fn with_field(r: Record, key: &[u8], value: &[u8]) -> Record {
-    let mut m = r;
-    if words::is_word(key, b"number") {
-        m.number = words::byte(value);
-        return m;
-    }
-    if words::is_word(key, b"opaque") {
-        m.opaque = words::byte(value);
-        return m;
-    }
-    if words::is_word(key, b"mark") {
-        m.mark = words::byte(value);
-        return m;
-    }
-    if words::is_word(key, b"links") {
-        m.links = words::small(value);
-        return m;
-    }
-    with_wide(m, key, value)
-}
-
-// `record PLACE KIND PERMISSIONS`, then pairs of a field's name and value.
+// `record PLACE KIND PERMISSIONS`, then at most eight pairs of a field's name and value.
 fn record_line(line: &[u8]) -> Record {
     let mut r = layers::items::no_record();
     r.number = words::byte(words::word(line, 1));
     r.kind = kind_named(words::word(line, 2));
     r.permissions = words::small(words::word(line, 3));
-    let mut k: usize = 4;
-    while k < 20 {
-        r = with_field(r, words::word(line, k), words::word(line, k + 1));
-        k += 2;
+    for pair in 2..10 {
+        set_field(
+            &mut r,
+            words::word(line, 2 * pair),
+            words::word(line, 2 * pair + 1),
+        );
     }
     r
 }
 
-// A hexadecimal digit's value.
-fn digit(c: u8) -> u8
-    ensures { result ≤ 15 }
-{
-    if c < b'0' {
-        return 0;
+// A name's first 28 bytes, zeros behind them.
+fn padded(w: &[u8]) -> [u8; 28] {
+    let mut name = [0; 28];
+    for (to, byte) in name.iter_mut().zip(names::name_bytes(w)) {
+        *to = byte;
     }
-    if c <= b'9' {
-        return c - b'0';
-    }
-    if c < b'a' {
-        return 0;
-    }
-    (c - b'a') % 6 + 10
-}
-
-// The byte that stands at `i` of a word: itself, or the two digits after a backslash.
-fn byte_of(w: &[u8], i: usize) -> u8 {
-    if w.len() <= i {
-        return 0;
-    }
-    if w[i] != b'\\' {
-        return w[i];
-    }
-    if w.len() - i < 3 {
-        return 0;
-    }
-    digit(w[i + 1]) * 16 + digit(w[i + 2])
-}
-
-fn step_of(w: &[u8], i: usize) -> usize
-    ensures { (1 ≤ result) × (result ≤ 3) }
-{
-    if w.len() <= i {
-        return 1;
-    }
-    if w[i] == b'\\' {
-        return 3;
-    }
-    1
-}
-
-// The name that a word writes, laid into `out` as far as it fits; answers the name's length.
-pub fn name(w: &[u8], out: &mut [u8]) -> usize {
-    let mut i: usize = 0;
-    let mut n: usize = 0;
-    while i < w.len() {
-        let b = [byte_of(w, i)];
-        layers::bytes::lay(out, n, &b);
-        let s = step_of(w, i);
-        if w.len() - i <= s {
-            return n + 1;
-        }
-        i += s;
-        n += 1;
-    }
-    n
+    name
 }
 
 // `entry PLACE PARENT CHILD NAME`; the name's length and the zero byte may follow.
 fn entry_line(line: &[u8]) -> Entry {
-    let mut x = [0u8; 28];
-    let n = name(words::word(line, 4), &mut x);
-    let mut e = Entry {
+    let name = words::word(line, 4);
+    let length = match words::word(line, 5) {
+        b"" => (names::name_bytes(name).count() % 256) as u8,
+        given => words::byte(given),
+    };
+    Entry {
         parent: words::byte(words::word(line, 2)),
         child: words::byte(words::word(line, 3)),
-        length: (n % 256) as u8,
+        length,
         zero: words::byte(words::word(line, 6)),
-        name: x,
-    };
-    if words::word(line, 5).len() != 0 {
-        e.length = words::byte(words::word(line, 5));
+        name: padded(name),
     }
-    e
 }
 
 // `byte OFFSET VALUE`: any byte of the table, for damage that no record or entry line writes.
-fn byte_line(t: &mut [u8], line: &[u8]) {
-    let b = [words::byte(words::word(line, 2))];
-    layers::bytes::lay(t, words::place(words::word(line, 1)), &b);
+fn byte_put(t: &mut [u8], line: &[u8]) {
+    if let Some(byte) = t.get_mut(words::place(words::word(line, 1))) {
+        *byte = words::byte(words::word(line, 2));
+    }
 }
 
 fn record_put(t: &mut [u8], line: &[u8]) {
-    if t.len() == 8192 {
+    if let Some(t) = t.as_mut_array() {
         layers::items::put_record(t, words::place(words::word(line, 1)), record_line(line));
     }
 }
 
 fn entry_put(t: &mut [u8], line: &[u8]) {
-    if t.len() == 8192 {
+    if let Some(t) = t.as_mut_array() {
         layers::items::put_entry(t, words::place(words::word(line, 1)), entry_line(line));
     }
 }
 
 // Puts what a line says into the table of 8192 bytes.
-pub fn put_line(t: &mut [u8], line: &[u8]) -> Put {
-    let verb = words::word(line, 0);
-    if words::is_word(verb, b"record") {
-        record_put(t, line);
-        return Put::Done;
+pub fn put_line<'a>(t: &mut [u8], line: &'a [u8]) -> Result<(), NoSuchLine<'a>> {
+    match words::word(line, 0) {
+        b"record" => record_put(t, line),
+        b"entry" => entry_put(t, line),
+        b"byte" => byte_put(t, line),
+        _ => return Err(NoSuchLine { line }),
     }
-    if words::is_word(verb, b"entry") {
-        entry_put(t, line);
-        return Put::Done;
-    }
-    if words::is_word(verb, b"byte") {
-        byte_line(t, line);
-        return Put::Done;
-    }
-    Put::NoSuchLine
+    Ok(())
 }
 
-// Puts a line into the table of layer `k`: 0 the upper one, 1 to 3 the lower ones, which stand one after another.
-pub fn put_layer_line(upper: &mut [u8], lower: &mut [u8], k: usize, line: &[u8]) -> Put {
+// Puts a line into the table of layer `k`: 0 the upper one, 1 to 3 the lower ones, one after another. A layer that is not there takes any line.
+pub fn put_layer_line<'a>(
+    upper: &mut [u8],
+    lower: &mut [u8],
+    k: usize,
+    line: &'a [u8],
+) -> Result<(), NoSuchLine<'a>> {
     if k == 0 {
         return put_line(memory::first_mut(upper, 8192), line);
     }
-    if 3 < k {
-        return Put::Done;
+    match lower.chunks_exact_mut(8192).take(3).nth(k - 1) {
+        Some(t) => put_line(t, line),
+        None => Ok(()),
     }
-    let a = 8192 * (k - 1);
-    let e = a + 8192;
-    if lower.len() < e {
-        return Put::Done;
-    }
-    put_line(&mut lower[a..e], line)
 }

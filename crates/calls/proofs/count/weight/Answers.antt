@@ -2,8 +2,8 @@ use Rattle.calls.proofs.CountLaws.{weights}
 use borrow.Author.Rules.{rules}
 use Rattle.calls.proofs.count.weight.Goals as goal
 
-pub returns-then-wide-x : goal.returns-then-wide-x
-returns-then-wide-x c = search (weights, rules)
+pub returns-then-from-x : goal.returns-then-from-x
+returns-then-from-x c = search (weights, rules)
 
 pub returns-then-is_white : goal.returns-then-is_white
 returns-then-is_white c = search (weights, rules)

@@ -7,6 +7,6 @@ pub returns-then-permissions-gt4095 : goal.returns-then-permissions-gt4095
 unfolding bad_mode
 returns-then-permissions-gt4095 c = search (cases, rules)
 
-pub returns : goal.returns
+pub returns-else-permissions-gt4095 : goal.returns-else-permissions-gt4095
 unfolding bad_mode
-returns c = search (cases, rules)
+returns-else-permissions-gt4095 c = search (cases, rules)

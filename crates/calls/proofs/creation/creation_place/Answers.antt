@@ -1,3 +1,4 @@
+use Rattle.calls.proofs.Raised.{found, missing, raised}
 use Rattle.calls.proofs.TestLaws.{tests}
 use Rattle.calls.proofs.NumberTests.{number_tests}
 use Rattle.calls.proofs.WritingTests.{more_tests}
@@ -18,14 +19,20 @@ pub returns-then-bad : goal.returns-then-bad
 unfolding creation_before
 returns-then-bad c = search (tests, number_tests, more_tests, rules) depth 12
 
-pub returns-in_default : goal.returns-in_default
+pub returns-in_err-k : goal.returns-in_err-k
 unfolding creation_before
-returns-in_default c = search (tests, number_tests, more_tests, rules) depth 12
+returns-in_err-k c =
+    let h = missing _ _ _ c.ok_or.ensures.value _ c.in_err-k.was in
+    rw (raised _ _ _ c.ok_or.ensures.value _ c.in_err-k.was _ c.from_residual.ensures.1) (search (tests, number_tests, more_tests, rules) depth 12)
 
-pub returns-then-upper-ne8192 : goal.returns-then-upper-ne8192
+pub returns-then-ls-ne8192 : goal.returns-then-ls-ne8192
 unfolding creation_before
-returns-then-upper-ne8192 c = search (tests, number_tests, more_tests, rules) depth 12
+returns-then-ls-ne8192 c =
+    let h = found _ _ _ c.ok_or.ensures.value _ c.in_ok-k.was in
+    search (tests, number_tests, more_tests, rules) depth 12
 
 pub returns : goal.returns
 unfolding creation_before
-returns c = search (tests, number_tests, more_tests, parent_found, rules) depth 12 fits 8000
+returns c =
+    let h = found _ _ _ c.ok_or.ensures.value _ c.in_ok-k.was in
+    search (tests, number_tests, more_tests, parent_found, rules) depth 12 fits 8000

@@ -1,6 +1,5 @@
-use Rattle.calls.proofs.CreationRecords.{no_such_kind}
-use borrow.Author.Rules.{rules}
+use Rattle.calls.proofs.CreationRecords.{no_such_kind, byte_none}
 use Rattle.calls.proofs.creation.kind_of.Goals as goal
 
-pub returns-then-kind-gt255 : goal.returns-then-kind-gt255
-returns-then-kind-gt255 c = search (no_such_kind, rules)
+pub returns-in_err-n : goal.returns-in_err-n
+returns-in_err-n c = rw c.from_residual.ensures (no_such_kind _ (byte_none _ _ _ c.try_from.ensures c.ok.ensures.value c.in_err-n.was))

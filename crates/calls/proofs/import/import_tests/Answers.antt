@@ -1,5 +1,8 @@
+use mathlib.Core.Bool.{true}
 use Rattle.calls.proofs.TestLaws.{tests}
+use Rattle.calls.proofs.ImportLaws.{broken_so_far, broken_at, none_broken}
 use Rattle.calls.specs.Import.{import_tests}
+use native.Mathlib.Omega.{arith}
 use borrow.Author.Rules.{rules}
 use Rattle.calls.proofs.import.import_tests.Goals as goal
 
@@ -11,22 +14,14 @@ pub returns-then-no_layer : goal.returns-then-no_layer
 unfolding import_tests
 returns-then-no_layer c = search (tests, rules) depth 20
 
+pub loop-k-init : goal.loop-k-init
+loop-k-init c = λ i h. absurd (omega arith)
+
 pub returns-then-is_broken : goal.returns-then-is_broken
-unfolding import_tests
-returns-then-is_broken c = search (tests, rules) depth 20
+returns-then-is_broken c = broken_at _ _ _ _ _ c.is_broken.ensures c.if-is_broken.true c.loop-k-test.true
 
-pub returns-then-is_broken-2 : goal.returns-then-is_broken-2
-unfolding import_tests
-returns-then-is_broken-2 c = search (tests, rules) depth 20
-
-pub returns-then-is_broken-3 : goal.returns-then-is_broken-3
-unfolding import_tests
-returns-then-is_broken-3 c = search (tests, rules) depth 20
-
-pub returns-then-is_broken-4 : goal.returns-then-is_broken-4
-unfolding import_tests
-returns-then-is_broken-4 c = search (tests, rules) depth 20
+pub loop-k-preserved : goal.loop-k-preserved
+loop-k-preserved c = broken_so_far _ _ _ _ c.loop-k.invariant c.is_broken.ensures c.if-is_broken.false
 
 pub returns : goal.returns
-unfolding import_tests
-returns c = search (tests, rules) depth 20
+returns c = none_broken c.args.ls.upper.now c.args.ls.lower.now _ true c.args.s.now c.loop-k.invariant c.loop-k-test.false _ c.lengths_fit.ensures c.if-not-lengths_fit.false _ c.no_layer.ensures c.if-no_layer.false

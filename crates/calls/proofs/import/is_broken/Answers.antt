@@ -1,9 +1,8 @@
 use Rattle.calls.proofs.ImportLaws.{no_bytes, rules_decide}
-use borrow.Author.Rules.{rules}
 use Rattle.calls.proofs.import.is_broken.Goals as goal
 
-pub returns-then-t-eq0 : goal.returns-then-t-eq0
-returns-then-t-eq0 c = search (no_bytes, rules_decide, rules)
+pub returns-in_default : goal.returns-in_default
+returns-in_default c = no_bytes _ c.in_default.ensures
 
 pub returns : goal.returns
-returns c = search (no_bytes, rules_decide, rules)
+returns c = rules_decide _ _ c.in-Some.ensures.0 c.in-Some.ensures.1 _ c.valid.ensures

@@ -3,10 +3,10 @@ use Rattle.layers.proofs.Cases.{cases}
 use borrow.Author.Rules.{rules}
 use Rattle.calls.proofs.import.no_layer.Goals as goal
 
-pub returns-then-upper-eq0 : goal.returns-then-upper-eq0
+pub returns-then-is_empty : goal.returns-then-is_empty
 unfolding no_layer
-returns-then-upper-eq0 c = search (cases, rules)
+returns-then-is_empty c = search (cases, rules)
 
-pub returns : goal.returns
+pub returns-else-is_empty : goal.returns-else-is_empty
 unfolding no_layer
-returns c = search (cases, rules)
+returns-else-is_empty c = search (cases, rules)

@@ -1,12 +1,12 @@
+use Rattle.std.proofs.Common.{tests, arith}
+use Rattle.std.proofs.lemmas.Grind.{common_steps}
 use Rattle.calls.specs.Lengths.{upper_fits}
-use Rattle.layers.proofs.Cases.{cases}
-use borrow.Author.Rules.{rules}
 use Rattle.calls.proofs.lengths.upper_fits.Goals as goal
 
-pub returns-then-upper-eq0 : goal.returns-then-upper-eq0
+pub returns-in-0 : goal.returns-in-0
 unfolding upper_fits
-returns-then-upper-eq0 c = search (cases, rules)
+returns-in-0 c = grind (arith, tests, common_steps)
 
-pub returns : goal.returns
+pub returns-in_default : goal.returns-in_default
 unfolding upper_fits
-returns c = search (cases, rules)
+returns-in_default c = grind (arith, tests, common_steps)

@@ -2,14 +2,11 @@ use Rattle.calls.proofs.ChildLaws.{next_child, children_walk}
 use borrow.Author.Rules.{rules}
 use Rattle.calls.proofs.page.put_children.Goals as goal
 
-pub returns-in_default : goal.returns-in_default
-returns-in_default c = search (children_walk, rules)
-
 pub overflow_add-k : goal.overflow_add-k
 overflow_add-k c = search (next_child, rules)
 
-pub returns-in_default-p : goal.returns-in_default-p
-returns-in_default-p c = search (children_walk, rules)
+pub returns-in_default-put_child : goal.returns-in_default-put_child
+returns-in_default-put_child c = search (children_walk, rules)
 
 pub overflow_add-i : goal.overflow_add-i
 overflow_add-i c = search (next_child, rules)
@@ -25,3 +22,6 @@ loop-j-smaller c = search (next_child, rules)
 
 pub loop-j-preserved : goal.loop-j-preserved
 loop-j-preserved c = (search (next_child, rules), search (next_child, rules), search rules, search (children_walk, rules))
+
+pub returns : goal.returns
+returns c = search (children_walk, rules)

@@ -5,8 +5,8 @@ use Rattle.calls.proofs.page.put_listing.Goals as goal
 pub returns-in_default : goal.returns-in_default
 returns-in_default c = search (whole_walk, rules)
 
-pub returns-in_default-g : goal.returns-in_default-g
-returns-in_default-g c = search (whole_walk, rules)
+pub returns-in_default-put_entry : goal.returns-in_default-put_entry
+returns-in_default-put_entry c = search (whole_walk, rules)
 
 pub returns : goal.returns
-returns c = then_children _ _ _ _ _ _ _ _ c.node_numbered-n.ensures _ _ c.put_entry-f.ensures.0 c.put_entry-f.ensures.1 _ c.in-Next.is _ c.node_above-m.ensures _ _ c.put_entry-g.ensures.0 c.put_entry-g.ensures.1 _ c.in-Next-g.is _ _ c.put_children.ensures
+returns c = then_children _ _ _ _ _ _ _ _ c.node_numbered-n.ensures _ _ c.put_entry.ensures.0 c.put_entry.ensures.1 _ c.in-Some.is _ c.node_above-m.ensures _ _ c.put_entry-2.ensures.0 c.put_entry-2.ensures.1 _ c.in-Some-put_entry.is _ _ c.put_children.ensures

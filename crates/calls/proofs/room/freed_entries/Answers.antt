@@ -1,9 +1,5 @@
-use Rattle.calls.proofs.RoomLaws.{freed}
-use borrow.Author.Rules.{rules}
+use Rattle.calls.proofs.RoomLaws.{entry_freed}
 use Rattle.calls.proofs.room.freed_entries.Goals as goal
 
-pub returns-in_default : goal.returns-in_default
-returns-in_default c = (search (freed, rules), search rules)
-
 pub returns : goal.returns
-returns c = (search (freed, rules), search rules)
+returns c = entry_freed _ _ _ c.is_some.ensures c.from.ensures

@@ -1,15 +1,12 @@
+use mathlib.Core.Path.{sym, ◌∙◌}
+use lib.Dec.{eqb}
 use borrow.Author.Rules.{rules}
-use Rattle.calls.proofs.RoomLaws.{is_in_end, is_in_stops, is_in_here, is_in_next}
+use borrow.Author.Tests.{tests}
+use Rattle.std.proofs.lemmas.Iterator.Search.{any_from_yields_List}
+use Rattle.calls.proofs.RoomLaws.{walk_yields, is_in_any}
 use Rattle.calls.proofs.room.is_missing.Goals as goal
 
-pub returns-then-in_upper : goal.returns-then-in_upper
-returns-then-in_upper c = search (is_in_stops, rules)
-
-pub returns-then-i-j : goal.returns-then-i-j
-returns-then-i-j c = search (is_in_here, rules)
-
-pub loop-m-preserved : goal.loop-m-preserved
-loop-m-preserved c = search (is_in_next, rules)
-
 pub returns : goal.returns
-returns c = search (is_in_end, rules)
+returns c =
+    any_from_yields_List (λ y. eqb c.args.i y) c.any.new.self _ c.any.result c.any.ensures.ran (walk_yields _ _ c.missing.ensures) (λ x b q k. search (rules, tests))
+    ∙ sym (is_in_any c.args.i _)

@@ -1,9 +1,5 @@
-use Rattle.calls.proofs.UpperLaws.{top_none, top_there}
-use borrow.Author.Rules.{rules}
+use Rattle.calls.proofs.UpperLaws.{top_none}
 use Rattle.calls.proofs.upper.top_record.Goals as goal
 
-pub returns-then-t-ne8192 : goal.returns-then-t-ne8192
-returns-then-t-ne8192 c = search (top_none, rules)
-
-pub returns : goal.returns
-returns c = search (top_there, rules)
+pub returns-in_default : goal.returns-in_default
+returns-in_default c = top_none c.args.n _ c.top_of-p.ensures _ _ _ c.from.ensures _ c.in_default.ensures c.no_record.ensures

@@ -1,12 +1,9 @@
 use Rattle.layers.proofs.RuleOrder.{Ordered}
 use Rattle.layers.specs.Items.{entries_of}
 use lib.ListN.{length, take}
-use Prim.Native.Nat.{◌≤◌, ◌-◌}
+use Prim.Native.Nat.{◌≤◌}
 use mathlib.Core.Path.{◌≡◌}
 use Rattle.layers.proofs.distinct.names_are_distinct.Given as goal
 
 abbrev pub invariant-loop-j : goal.invariant-loop-j
-invariant-loop-j l = (l.j ≤ l.m) × (l.n ≤ l.j) × (length l.p ≡ 512) × Ordered (entries_of l.t) l.j (take l.n l.p)
-
-abbrev pub decreases-loop-j : goal.decreases-loop-j
-decreases-loop-j l = l.m - l.j
+invariant-loop-j l = (l.n ≤ l.j) × (length l.p ≡ 512) × Ordered (entries_of l.t) l.j (take l.n l.p)

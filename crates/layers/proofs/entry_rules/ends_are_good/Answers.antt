@@ -8,9 +8,9 @@ pub returns-then-e-eq0 : goal.returns-then-e-eq0
 unfolding ends_test
 returns-then-e-eq0 c = search (cases, turned, rules) depth 12
 
-pub returns-then-kind_named-ne4 : goal.returns-then-kind_named-ne4
+pub returns-then-not-is_directory : goal.returns-then-not-is_directory
 unfolding ends_test
-returns-then-kind_named-ne4 c = search (cases, turned, rules) depth 12
+returns-then-not-is_directory c = search (cases, turned, rules) depth 12
 
 pub returns-then-not-child_exists : goal.returns-then-not-child_exists
 unfolding ends_test

@@ -1,15 +1,16 @@
+use mathlib.Core.Path.{refl}
+use native.Mathlib.Omega.{arith}
+use Rattle.std.proofs.lemmas.Iterator.{YieldsList-from_range}
+use Rattle.std.proofs.lemmas.Iterator.Search.{all_from_yields_List}
+use Rattle.layers.proofs.WordLaws.{word_not, words_alike, lent_bytes}
 use borrow.Author.Rules.{rules}
-use Rattle.layers.proofs.WordLaws.{word_not, word_next, words_end, lent_bytes}
+use borrow.Author.Tests.{tests}
 use Rattle.layers.proofs.names.same_words.Goals as goal
 
-pub returns-then-u64_at : goal.returns-then-u64_at
-returns-then-u64_at c = search (word_not 8, rules)
-
-pub returns-then-u64_at-2 : goal.returns-then-u64_at-2
-returns-then-u64_at-2 c = search (word_not 8, rules)
-
-pub loop-i-preserved : goal.loop-i-preserved
-loop-i-preserved c = let l = c in let s = l in (search rules, search rules, word_next 8 s.args.a.now s.args.b.now l.loop-i.i c.u64_at-in-loop-i.result c.u64_at-in-loop-i-2.result (search rules) (search rules) (search rules) (search rules) (search rules) (search rules) (search (lent_bytes, rules)) (search (lent_bytes, rules)))
+pub returns-then-number_at : goal.returns-then-number_at
+returns-then-number_at c = search (word_not 8, rules)
 
 pub returns : goal.returns
-returns c = search (words_end 8, lent_bytes, rules)
+returns c =
+    words_alike c.args.a.now c.args.b.now c.div_ceil.result c.number_at.result c.number_at-2.result c.all.result (search (lent_bytes, rules)) (search (lent_bytes, rules)) c.requires.0 c.requires.1 c.div_ceil.ensures c.number_at.ensures c.number_at-2.ensures c.if-number_at.false
+    (all_from_yields_List _ _ _ c.all.result c.all.ensures.ran (YieldsList-from_range 0 c.div_ceil.result c.div_ceil.result refl (omega arith)) (λ x b q k. search (rules, tests)))

@@ -1,16 +1,13 @@
-use Rattle.layers.proofs.Cases.{cases}
 use Rattle.layers.specs.Rules.{device_test}
+use Rattle.layers.proofs.Cases.{cases}
 use borrow.Author.Rules.{rules}
+use borrow.Author.Tests.{tests}
 use Rattle.layers.proofs.record_rules.device_fits.Goals as goal
 
-pub returns-then-k-eq2 : goal.returns-then-k-eq2
+pub returns-then-k-from-2 : goal.returns-then-k-from-2
 unfolding device_test
-returns-then-k-eq2 c = search (cases, rules) depth 12
+returns-then-k-from-2 c = search (cases, tests, rules) depth 14
 
-pub returns-then-k-eq6 : goal.returns-then-k-eq6
+pub returns-else-k-from-2 : goal.returns-else-k-from-2
 unfolding device_test
-returns-then-k-eq6 c = search (cases, rules) depth 12
-
-pub returns : goal.returns
-unfolding device_test
-returns c = search (cases, rules) depth 12
+returns-else-k-from-2 c = search (cases, tests, rules) depth 14

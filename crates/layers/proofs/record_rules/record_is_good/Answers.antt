@@ -8,13 +8,13 @@ pub returns-then-r-eq0 : goal.returns-then-r-eq0
 unfolding record_test
 returns-then-r-eq0 c = search (cases, turned, rules) depth 20
 
-pub returns-then-wide-i : goal.returns-then-wide-i
+pub returns-then-from-i : goal.returns-then-from-i
 unfolding record_test
-returns-then-wide-i c = search (cases, turned, rules) depth 20
+returns-then-from-i c = search (cases, turned, rules) depth 20
 
-pub returns-then-not-has_kind : goal.returns-then-not-has_kind
+pub returns-then-is_err : goal.returns-then-is_err
 unfolding record_test
-returns-then-not-has_kind c = search (cases, turned, rules) depth 20
+returns-then-is_err c = search (cases, turned, rules) depth 20
 
 pub returns-then-r-gt4095 : goal.returns-then-r-gt4095
 unfolding record_test

@@ -4,9 +4,9 @@ use Rattle.layers.specs.Rules.{valid_test}
 use borrow.Author.Rules.{rules}
 use Rattle.layers.proofs.rules.valid.Goals as goal
 
-pub returns-then-t-ne8192 : goal.returns-then-t-ne8192
+pub returns-in_default : goal.returns-in_default
 unfolding valid_test
-returns-then-t-ne8192 c = search (cases, turned, rules) depth 14
+returns-in_default c = search (cases, turned, rules) depth 14
 
 pub returns-then-not-root_is_good : goal.returns-then-not-root_is_good
 unfolding valid_test

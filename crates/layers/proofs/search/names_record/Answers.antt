@@ -1,16 +1,12 @@
 use Rattle.layers.specs.Search.{names_record}
-use Rattle.layers.proofs.Places.{ones}
+use Rattle.layers.proofs.Cases.{cases}
 use borrow.Author.Rules.{rules}
 use Rattle.layers.proofs.search.names_record.Goals as goal
 
-pub returns-then-parent_at-eq0 : goal.returns-then-parent_at-eq0
+pub returns-then-parent_at-ne0 : goal.returns-then-parent_at-ne0
 unfolding names_record
-returns-then-parent_at-eq0 c = (search (ones, rules), search rules)
+returns-then-parent_at-ne0 c = search (cases, rules) depth 12
 
-pub returns-then-child_at-r : goal.returns-then-child_at-r
+pub returns-else-parent_at-ne0 : goal.returns-else-parent_at-ne0
 unfolding names_record
-returns-then-child_at-r c = (search (ones, rules), search rules)
-
-pub returns : goal.returns
-unfolding names_record
-returns c = (search (ones, rules), search rules)
+returns-else-parent_at-ne0 c = search (cases, rules) depth 12

@@ -16,7 +16,7 @@ pub loop-k-init : goal.loop-k-init
 loop-k-init c = search (move_start, rules)
 
 pub loop-k-preserved : goal.loop-k-preserved
-loop-k-preserved c = (search rules, simp length-set (search rules), search rules, search rules, search rules, search (move_step, rules))
+loop-k-preserved c = (search rules, simp length-set (search rules), search rules, search rules, search (move_step, rules))
 
 pub shape_of-p : goal.shape_of-p
 shape_of-p c = simp length-set (search rules)

@@ -5,7 +5,4 @@ use mathlib.Core.Path.{◌≡◌}
 use Rattle.layers.proofs.spots.put_in.Given as goal
 
 abbrev pub invariant-loop-k : goal.invariant-loop-k
-invariant-loop-k l = (length l.initial.p ≡ 512) × (length l.p ≡ 512) × (l.n < 512) × (l.i ≤ l.k) × (l.k ≤ l.n) × (l.p ≡ moved l.initial.p l.n l.k)
-
-abbrev pub decreases-loop-k : goal.decreases-loop-k
-decreases-loop-k l = l.k
+invariant-loop-k l = (length l.initial.p ≡ 512) × (length l.p ≡ 512) × (l.n < 512) × (l.i ≤ l.k) × (l.p ≡ moved l.initial.p l.n l.k)

@@ -7,9 +7,9 @@ pub returns-then-r-eq0 : goal.returns-then-r-eq0
 unfolding named_test
 returns-then-r-eq0 c = search (cases, rules) depth 12
 
-pub returns-then-r-eq4 : goal.returns-then-r-eq4
+pub returns-then-is_directory : goal.returns-then-is_directory
 unfolding named_test
-returns-then-r-eq4 c = search (cases, rules) depth 12
+returns-then-is_directory c = search (cases, rules) depth 12
 
 pub returns : goal.returns
 unfolding named_test

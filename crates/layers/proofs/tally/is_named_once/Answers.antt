@@ -3,9 +3,9 @@ use Rattle.layers.specs.Rules.{once_named_test}
 use borrow.Author.Rules.{rules}
 use Rattle.layers.proofs.tally.is_named_once.Goals as goal
 
-pub returns-then-r-ne4 : goal.returns-then-r-ne4
+pub returns-then-not-is_directory : goal.returns-then-not-is_directory
 unfolding once_named_test
-returns-then-r-ne4 c = search (cases, rules) depth 12
+returns-then-not-is_directory c = search (cases, rules) depth 12
 
 pub returns-then-i-eq1 : goal.returns-then-i-eq1
 unfolding once_named_test

@@ -1,16 +1,18 @@
 use Rattle.merge.proofs.LoadLaws.{keep_start, keep_missing, skip_resident, keep_end}
 use lib.ListN.{length-set}
 use borrow.Author.Rules.{rules}
+use Rattle.merge.proofs.load.keep_missing.Goals.{then-has_none, else-has_none}
 use Rattle.merge.proofs.load.keep_missing.Goals as goal
 
 pub loop-i-init : goal.loop-i-init
-loop-i-init c = (search rules, search rules, search (keep_start, rules))
-
-pub loop-i-preserved-then-has_none : goal.loop-i-preserved-then-has_none
-loop-i-preserved-then-has_none c = (search rules, simp length-set (search rules), search (keep_missing, rules))
+loop-i-init c = (search rules, search (keep_start, rules))
 
 pub loop-i-preserved : goal.loop-i-preserved
-loop-i-preserved c = (search rules, search rules, search (skip_resident, rules))
+loop-i-preserved c =
+    elim c.if-has_none.branch [
+      | then-has_none w ↦ let h = w.if-has_none.true in rw (w.p-is, w.m-is) (simp length-set (search rules), search (keep_missing, rules))
+      | else-has_none w ↦ let h = w.if-has_none.false in rw (w.p-is, w.m-is) (search rules, search (skip_resident, rules))
+    ]
 
 pub returns : goal.returns
 returns c = search (keep_end, rules)

@@ -5,11 +5,11 @@ use Rattle.merge.proofs.scan.position.Goals as goal
 pub loop-lo-init : goal.loop-lo-init
 loop-lo-init c = search (halved_start, rules)
 
-pub loop-lo-preserved-in-Before : goal.loop-lo-preserved-in-Before
-loop-lo-preserved-in-Before c = search (halved_before, rules)
+pub loop-lo-preserved-in-Less : goal.loop-lo-preserved-in-Less
+loop-lo-preserved-in-Less c = search (halved_before, rules)
 
-pub returns-in-Same : goal.returns-in-Same
-returns-in-Same c = search (halved_same, rules)
+pub returns-in-Equal : goal.returns-in-Equal
+returns-in-Equal c = search (halved_same, rules)
 
 pub loop-lo-preserved : goal.loop-lo-preserved
 loop-lo-preserved c = search (halved_after, rules)

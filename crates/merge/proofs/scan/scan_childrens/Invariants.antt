@@ -5,13 +5,7 @@ use mathlib.Core.Path.{◌≡◌}
 use Rattle.merge.proofs.scan.scan_childrens.Given as goal
 
 abbrev pub invariant-loop-j : goal.invariant-loop-j
-invariant-loop-j l = (length l.s ≡ 4) × (length l.t ≡ 8192) × (l.i < 4) × (l.j ≤ 128) × (l.n ≤ 128 * l.i + l.j) × InLayer l.upper l.lower l.s l.len l.initial.p l.k l.d l.t l.p l.n l.i l.j × (l.initial.n ≤ l.n)
+invariant-loop-j l = (length l.s ≡ 4) × (l.n ≤ 128 * l.i + l.j) × InLayer l.ls.upper.now l.ls.lower.now l.s l.len l.initial.p l.a.layer l.a.number l.t l.p l.n l.i l.j × (l.initial.n ≤ l.n)
 
-abbrev pub invariant-scan : goal.invariant-scan
-invariant-scan l = (length l.s ≡ 4) × (l.i ≤ 4) × (l.n ≤ 128 * l.i) × Scanned l.upper l.lower l.s l.len l.initial.p l.p l.n l.i
-
-abbrev pub decreases-loop-j : goal.decreases-loop-j
-decreases-loop-j l = 128 - l.j
-
-abbrev pub decreases-scan : goal.decreases-scan
-decreases-scan l = l.len - l.i
+abbrev pub invariant-loop-i : goal.invariant-loop-i
+invariant-loop-i l = (length l.s ≡ 4) × (l.n ≤ 128 * l.i) × Scanned l.ls.upper.now l.ls.lower.now l.s l.len l.initial.p l.p l.n l.i

@@ -2,10 +2,10 @@ use Rattle.merge.specs.Pushes.{ends_seen}
 use borrow.Author.Rules.{rules}
 use Rattle.merge.proofs.stacks.ends_seen.Goals as goal
 
-pub returns-in-Nothing : goal.returns-in-Nothing
+pub returns-in-None : goal.returns-in-None
 unfolding ends_seen
-returns-in-Nothing c = search rules
+returns-in-None c = search rules
 
-pub returns-in-There : goal.returns-in-There
+pub returns-in-Some : goal.returns-in-Some
 unfolding ends_seen
-returns-in-There c = search rules
+returns-in-Some c = search rules

@@ -3,10 +3,10 @@ use Rattle.merge.proofs.PushLaws.{seen_at}
 use borrow.Author.Rules.{rules}
 use Rattle.merge.proofs.stacks.with_seen.Goals as goal
 
-pub returns-in-Nothing : goal.returns-in-Nothing
+pub returns-in-None : goal.returns-in-None
 unfolding with_seen
-returns-in-Nothing c = search (seen_at, rules)
+returns-in-None c = search (seen_at, rules)
 
-pub returns-in-There : goal.returns-in-There
+pub returns-in-Some : goal.returns-in-Some
 unfolding with_seen
-returns-in-There c = search (seen_at, rules)
+returns-in-Some c = search (seen_at, rules)

@@ -1,17 +1,22 @@
-use Rattle.merge.proofs.StateLaws.{walked_all}
-use Rattle.merge.proofs.StateLaws.{nodes_are, below_count, below_end}
-use Rattle.layers.proofs.Places.{first_walk}
-use borrow.Author.Rules.{rules}
+use Rattle.std.proofs.lemmas.Iterator.{YieldsList-from_slice}
+use Rattle.std.proofs.lemmas.Iterator.Search.{position_from_yields_List}
+use Rattle.std.proofs.Common.{◌≡◌, ◌∙◌, None, Some, position, sym, arith, rules, tests}
+use Rattle.merge.proofs.StateLaws.{past_all, place_behind}
+use Rattle.merge.specs.Nodes.{node_of}
+use Rattle.merge.specs.State.{has_parent}
 use Rattle.merge.proofs.state.child_from.Goals as goal
 
-pub has_parent-requires : goal.has_parent-requires
-has_parent-requires c = search (below_count, below_end, rules)
+pub returns-in_err-get : goal.returns-in_err-get
+returns-in_err-get c = c.from_residual.ensures ∙ past_all node_of (has_parent c.args.p) c.nodes.result.now _ c.nodes.ensures.1 c.args.k (omega (arith, c.in_err-get.ensures.lookup))
 
-pub returns-then-has_parent : goal.returns-then-has_parent
-returns-then-has_parent c = search (first_walk, nodes_are, rules)
-
-pub loop-j-preserved : goal.loop-j-preserved
-loop-j-preserved c = search (first_walk, nodes_are, rules)
+pub returns-in_err-i : goal.returns-in_err-i
+returns-in_err-i c =
+    let e : c.position.result ≡ position (λ b. has_parent c.args.p (node_of b)) c.in_ok-get.field-0.now =
+    position_from_yields_List (λ b. has_parent c.args.p (node_of b)) _ _ _ c.position.ensures.ran (YieldsList-from_slice c.in_ok-get.field-0.now cc) (λ x b q k. search (rules, tests)) in
+    c.from_residual-in_err-i.ensures ∙ place_behind node_of (has_parent c.args.p) c.nodes.result.now _ c.nodes.ensures.1 c.args.k _ None c.in_ok-get.ensures.lookup.0.2 (sym c.in_err-i.was ∙ e)
 
 pub returns : goal.returns
-returns c = search (walked_all, rules)
+returns c =
+    let e : c.position.result ≡ position (λ b. has_parent c.args.p (node_of b)) c.in_ok-get.field-0.now =
+    position_from_yields_List (λ b. has_parent c.args.p (node_of b)) _ _ _ c.position.ensures.ran (YieldsList-from_slice c.in_ok-get.field-0.now cc) (λ x b q k. search (rules, tests)) in
+    place_behind node_of (has_parent c.args.p) c.nodes.result.now _ c.nodes.ensures.1 c.args.k _ (Some c.in_ok-i.i) c.in_ok-get.ensures.lookup.0.2 (sym c.in_ok-i.was ∙ e)

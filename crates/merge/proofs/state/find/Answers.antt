@@ -1,17 +1,12 @@
-use Rattle.merge.proofs.StateLaws.{walked_all}
-use Rattle.merge.proofs.StateLaws.{nodes_are, below_count, below_end}
-use Rattle.layers.proofs.Places.{first_walk}
-use borrow.Author.Rules.{rules}
+use Rattle.std.proofs.lemmas.Iterator.{YieldsList-from_slice}
+use Rattle.std.proofs.lemmas.Iterator.Search.{position_from_yields_List}
+use Rattle.std.proofs.Common.{rules, tests}
+use Rattle.merge.proofs.StateLaws.{position_is}
+use Rattle.merge.specs.Nodes.{node_of}
+use Rattle.merge.specs.State.{is_number}
 use Rattle.merge.proofs.state.find.Goals as goal
 
-pub is_number-requires : goal.is_number-requires
-is_number-requires c = search (below_count, below_end, rules)
-
-pub returns-then-is_number : goal.returns-then-is_number
-returns-then-is_number c = search (first_walk, nodes_are, rules)
-
-pub loop-j-preserved : goal.loop-j-preserved
-loop-j-preserved c = search (first_walk, nodes_are, rules)
-
 pub returns : goal.returns
-returns c = search (walked_all, rules)
+returns c =
+    position_is node_of (is_number c.args.x) c.nodes.result.now _ c.position.result c.nodes.ensures.1
+    (position_from_yields_List (λ b. is_number c.args.x (node_of b)) _ _ _ c.position.ensures.ran (YieldsList-from_slice c.nodes.result.now cc) (λ x b q k. search (rules, tests)))

@@ -1,22 +1,25 @@
-use Rattle.merge.proofs.PassedLaws.{passed_within, passed_start}
-use Rattle.merge.proofs.StateLaws.{nodes_are, below_count, below_end, spot_walk}
+use Rattle.merge.proofs.PassedLaws.{passed_start}
+use lib.ListN.{length}
+use Prim.Native.Nat.{◌≤◌}
+use native.Mathlib.Omega.{arith}
+use Rattle.merge.proofs.StateLaws.{length_nodes, lent_many, spot_walk, spot_end}
 use borrow.Author.Rules.{rules}
 use Rattle.merge.proofs.state.place_from.Goals as goal
 
 pub loop-j-init : goal.loop-j-init
-loop-j-init c = (search (passed_within, rules), search (passed_start, rules))
+loop-j-init c = search (passed_start, rules)
 
-pub order_at-requires : goal.order_at-requires
-order_at-requires c = search (below_count, below_end, rules)
+pub returns-in-Less : goal.returns-in-Less
+returns-in-Less c = search (spot_walk, rules)
 
-pub returns-in-Before : goal.returns-in-Before
-returns-in-Before c = search (spot_walk, nodes_are, rules)
-
-pub returns-in-Same : goal.returns-in-Same
-returns-in-Same c = search (spot_walk, nodes_are, rules)
+pub returns-in-Equal : goal.returns-in-Equal
+returns-in-Equal c = search (spot_walk, rules)
 
 pub loop-j-preserved : goal.loop-j-preserved
-loop-j-preserved c = search (spot_walk, nodes_are, rules)
+loop-j-preserved c = search (spot_walk, rules)
 
 pub returns : goal.returns
-returns c = search (spot_walk, nodes_are, rules)
+returns c =
+    let l : c.loop-j.j ≤ length c.nodes-ns.result.now =
+    c.loop-j.auto.j-end (omega (arith, lent_many _ _ c.nodes-ns.ensures.0, length_nodes c.args.s.now, c.requires.within)) in
+    search (spot_end, rules)

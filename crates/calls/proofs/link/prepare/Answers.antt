@@ -1,6 +1,0 @@
-use Rattle.calls.proofs.WritingSteps.{steps}
-use borrow.Author.Rules.{rules}
-use Rattle.calls.proofs.link.prepare.Goals as goal
-
-pub returns : goal.returns
-returns c = (search (steps, rules), search (steps, rules))

@@ -1,0 +1,9 @@
+use Rattle.std.specs.Int.{w16, from_be_bytes}
+use mathlib.Core.Path.{ap, ◌∙◌}
+use Rattle.layers.proofs.Endian.{be_2, read_again}
+use Rattle.layers.proofs.WordLaws.{lent_bytes}
+use borrow.Author.Rules.{rules}
+use Rattle.layers.proofs.bytes.U16Number.first_be.Goals as goal
+
+pub returns : goal.returns
+returns c = be_2 c.args.b.now c.swap_bytes.result c.requires (c.swap_bytes.ensures ∙ ap (from_be_bytes w16) (read_again 2 c.first.result c.args.b.now (search (lent_bytes, rules)) c.requires c.first.ensures))

@@ -1,9 +1,0 @@
-use lib.ListN.{length-set}
-use borrow.Author.Rules.{rules}
-use Rattle.replay.proofs.answers.mark.Goals as goal
-
-pub loop-i-smaller : goal.loop-i-smaller
-loop-i-smaller c = simp length-set (search rules)
-
-pub loop-i-preserved : goal.loop-i-preserved
-loop-i-preserved c = (simp length-set (search rules), simp length-set (search rules))
