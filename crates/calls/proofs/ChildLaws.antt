@@ -6,7 +6,7 @@ use native.Mathlib.Omega.{arith}
 use mathlib.Core.Bool.{Bool, true, false, not}
 use borrow.Author.Tests.{not-true, not-false}
 use mathlib.Core.List.{List, ◌∷◌}
-use lib.ListN.{take, drop, get_or}
+use lib.ListN.{drop, get_or}
 use mir.Syntax.{w64}
 use mir.Val.{Fits}
 use Rattle.layers.specs.Names.{Name}
@@ -76,7 +76,13 @@ module _ (o limit i at : ℕ) (t u l : List ℕ) (x : ℕ) (ns : List Node) (k :
     pub children_white : not b ≡ false → fill o limit i at t (child_dirents u l x (drop (j + 1) ns)) ≡ z
     children_white e = ap (fill o limit i at t) (sym (white_child ns x k f f_is j h u l n n_is b b_is (not-false b e))) ∙ inv
 
-    module _ (e : not b ≡ true) (r : Option ℕ) (v : List ℕ) (p : r ≡ entry_answer o limit t at i (dirent_of u l (take n.length n.name) n)) (q : v ≡ entry_over o limit t at i (dirent_of u l (take n.length n.name) n)) where
+    module _ (e : not b ≡ true) (y : Name) (y_is : y ≡ node_name n) (r : Option ℕ) (v : List ℕ) (answer : r ≡ entry_answer o limit t at i (dirent_of u l y n)) (written : v ≡ entry_over o limit t at i (dirent_of u l y n)) where
+      p : r ≡ entry_answer o limit t at i (dirent_of u l (node_name n) n)
+      p = answer ∙ ap (λ x. entry_answer o limit t at i (dirent_of u l x n)) y_is
+
+      q : v ≡ entry_over o limit t at i (dirent_of u l (node_name n) n)
+      q = written ∙ ap (λ x. entry_over o limit t at i (dirent_of u l x n)) y_is
+
       left : fill o limit i at t (dirent_of u l (node_name n) n ∷ child_dirents u l x (drop (j + 1) ns)) ≡ z
       left = ap (fill o limit i at t) (sym (live_child ns x k f f_is j h u l n n_is b b_is (not-true b e))) ∙ inv
 

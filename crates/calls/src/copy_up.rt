@@ -38,18 +38,18 @@ fn file_like(r: Record) -> Record
     }
 }
 
-// Adds a record for the node at place `k`, below its parent's upper record under the node's name.
+// Adds a record for the node at place `k`, below its parent's upper record under the node's name; its number, 0 where none is free (`new_record` of specs/).
 fn add_for(s: &[u8], upper: &mut Table, k: usize, r: Record) -> u8
     ensures { (result ≡ new_record upper.old) × (upper.new ≡ added_for k r (up upper.old s.now)) }
 {
     let n = state::node_at(s, k);
     let d = upper::top_of(parent::node_numbered(s, u64::from(n.parent)));
-    upper::add_new(upper, d.number, &n.name[..usize::from(n.length).min(28)], r)
+    upper::add_new(upper, d.number, n.name_bytes(), r)
 }
 
 // ---- directories
 
-// One missing directory, whose parent is there.
+// One missing directory, whose parent is there: its record goes on top, where a file's stands alone (`copy_file`); what the two share is `add_for`.
 fn make_directory(s: &mut [u8], upper: &mut Table, lower: &[u8], k: usize)
     ensures { (upper.new ≡ (made_directory lower.now k (up upper.old s.old)).table) × (s.new ≡ (made_directory lower.now k (up upper.old s.old)).state) }
 {
@@ -60,6 +60,7 @@ fn make_directory(s: &mut [u8], upper: &mut Table, lower: &[u8], k: usize)
 }
 
 // The directory at place `k` in the upper layer, after the missing ones above it; at most `depth` of them.
+// It calls itself, as `made_upper` of specs/ and the Rust do: the way down again is kept by the calls, where a list of places would want a buffer.
 pub(crate) fn create_upper_dir(
     s: &mut [u8],
     upper: &mut Table,

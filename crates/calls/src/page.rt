@@ -1,5 +1,5 @@
 // A page of a listing, written into the caller's buffer.
-ghost use Rattle.std.specs.Prelude.{◌≡◌, take};
+ghost use Rattle.std.specs.Prelude.{◌≡◌};
 ghost use Rattle.merge.specs.Nodes.{nodes_of};
 ghost use Rattle.calls.specs.Parents.{numbered};
 ghost use Rattle.calls.specs.Pages.{entry_answer, entry_over, fill, Filled, Paged};
@@ -27,7 +27,7 @@ pub struct Window {
 
 // ---- one entry
 
-// The type of a layer's record; 0 where there is none.
+// The type of a layer's record, as the byte that C gets; 0 where there is none (`type_of` of specs/).
 fn type_of(ls: Layers<'_>, p: Pair) -> u8
     ensures { result ≡ type_of ls.entry.upper.now ls.entry.lower.now p }
 {
@@ -57,23 +57,7 @@ fn put_entry(
     writer::append_dirent(buf, at, w.limit, u64::from(p.number), index, k, name)
 }
 
-// The entry of a child, `x` being the bytes that hold its name.
-fn put_child(
-    buf: &mut [u8],
-    at: usize,
-    w: Window,
-    index: u64,
-    ls: Layers<'_>,
-    n: Node,
-    x: [u8; 28],
-) -> Option<usize>
-    ensures { (result ≡ entry_answer w.offset w.limit buf.old at index (dirent_of ls.entry.upper.now ls.entry.lower.now (take n.length x) n)) × (buf.new ≡ entry_over w.offset w.limit buf.old at index (dirent_of ls.entry.upper.now ls.entry.lower.now (take n.length x) n)) }
-{
-    let m = usize::from(n.length).min(28);
-    put_entry(buf, at, w, index, ls, n, &x[..m])
-}
-
-// ---- the entries of the children, and the page
+// ---- the entries of the children, and the page; the walk goes by `child_from`, which skips other directories' nodes without reading them, as no range does
 
 fn put_children(buf: &mut [u8], start: usize, w: Window, s: &[u8], ls: Layers<'_>, x: u64) -> Page
     ensures { ◌≡◌ {A = Filled} (record { page = result; buffer = buf.new }) (fill w.offset w.limit 2 start buf.old (child_dirents ls.entry.upper.now ls.entry.lower.now x (nodes_of s.now))) }
@@ -85,8 +69,7 @@ fn put_children(buf: &mut [u8], start: usize, w: Window, s: &[u8], ls: Layers<'_
         k = j + 1;
         let n = state::node_at(s, j);
         if !parent::is_white(n) {
-            let name = n.name;
-            let Some(next) = put_child(buf, at, w, i, ls, n, name) else {
+            let Some(next) = put_entry(buf, at, w, i, ls, n, n.name_bytes()) else {
                 return Page {
                     bytes: at,
                     remains: true,

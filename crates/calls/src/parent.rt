@@ -20,7 +20,7 @@ pub fn is_white(n: Node) -> bool
 pub fn is_loaded(s: &[u8], k: usize) -> bool
     ensures { result ≡ is_loaded (node_at (nodes_of s.now) k) }
 {
-    state::node_at(s, k).loaded != 0
+    load::is_loaded(state::node_at(s, k))
 }
 
 // A node is a directory where its top record is one.
@@ -60,7 +60,7 @@ pub fn load_at(s: &mut [u8], ls: Layers<'_>, k: usize) -> Result<usize, Refusal>
     Ok(k)
 }
 
-// ---- by number, where a node that is not there is no node
+// ---- by number, where a node that is not there is no node: so the definitions of specs/Parents answer, and no Option
 
 // The place found; where nothing is, the place behind the last.
 pub(crate) fn place_of(s: &[u8], f: Option<usize>) -> usize

@@ -70,6 +70,8 @@ impl fmt::Display for Refusal {
 
 impl Error for Refusal {}
 
+// ---- the two numbers in which C gets an answer (ABI.md)
+
 // An answer in 32 bits: an errno, 0 for success.
 pub fn errno_of(a: Result<usize, Refusal>) -> u32
     ensures { result ≡ errno_of a }

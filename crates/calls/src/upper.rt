@@ -1,4 +1,5 @@
 // What a creation, a copy-up and a link write: a record and an entry of the upper layer, and the stack of the name's node.
+// Records and nodes are numbered from 1: 0 is that there is none in `new_record`, `named_number` and `added_for` of specs/, and so in the answers here.
 ghost use Rattle.std.specs.Prelude.{◌≡◌, ◌<◌, length};
 ghost use Rattle.calls.specs.Parents.{top_of};
 ghost use Rattle.merge.specs.Stacks.{pair};
@@ -47,7 +48,7 @@ pub(crate) fn top_record(ls: Layers<'_>, n: Node) -> Record
 
 // ---- a new record with its entry
 
-// A new record, and its entry under the name `x` in the directory `d`; the record's number.
+// A new record, and its entry under the name `x` in the directory `d`; the record's number, 0 where none is free (`new_record` of specs/).
 pub(crate) fn add_new(t: &mut Table, d: u8, x: &[u8], r: Record) -> u8
     ensures { (result ≡ new_record t.old) × (t.new ≡ add_new d x.now r t.old) }
 {
@@ -67,7 +68,7 @@ fn empty(s: &mut [u8], f: Option<usize>)
         return;
     };
     let z = upper_pair(0);
-    let n = state::node_at(s, j).with_stack([z, z, z, z], 0);
+    let n = state::node_at(s, j).with_stack([z; 4], 0);
     change::put_node(s, j, n);
 }
 
@@ -98,7 +99,7 @@ fn upper_alone(p: u32, x: &[u8], c: u8) -> Node
     load::new_node(p, st, x)
 }
 
-// The node at place `j` gets the upper record `c` alone; its number.
+// The node at place `j` gets the upper record `c` alone; its number, which is 0 where there is no node (`named_number` of specs/).
 fn give_record(s: &mut [u8], j: usize, c: u8) -> u32
     ensures { (result ≡ (node_at (nodes_of s.old) j).number) × (s.new ≡ given_record s.old j c) }
 {

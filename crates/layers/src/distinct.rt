@@ -44,6 +44,7 @@ fn put_place(t: &Table, p: &mut [u16; 512], n: usize, j: usize) -> bool
     let Some(i) = spot_of(t, p, n, j) else {
         return false;
     };
+    // `j` is below 128: no `From`, and a `TryFrom` would have an error that cannot be.
     spots::put_in(p, n, i, j as u16);
     true
 }

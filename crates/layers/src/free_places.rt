@@ -58,7 +58,7 @@ pub(crate) fn entries_to(t: &Table) -> usize
     used_places(&t[4096..])
 }
 
-// Record places count from 1.
+// Record places count from 1, so each of the two names its half and its first place, and `used_places` is what they share.
 pub(crate) fn records_to(t: &Table) -> usize
     ensures { (result ≤ 129) × FreeFrom free_record (free_record ∷ records_of t.now) result }
 {

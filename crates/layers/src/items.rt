@@ -8,7 +8,7 @@ use crate::bytes;
 // A layer's table: 128 records, then 128 entries, 32 bytes each.
 pub type Table = [u8; 8192];
 
-// Every byte of a record's 32 is a field.
+// Every byte of a record's 32 is a field. Kind and opaque are bytes and no enum or bool: a damaged table holds any, and `record_at` answers for any.
 #[derive(Clone, Copy, PartialEq, Eq, Default)]
 pub struct Record {
     pub number: u8,
@@ -32,7 +32,7 @@ pub struct Entry {
     pub name: [u8; 28],
 }
 
-// ---- reading; records and entries share no field, bound or offset that a trait of both could say once
+// ---- reading, field by field as ABI.md lays them; records and entries share no field, bound or offset that a trait of both could say once
 
 fn record_of(b: &[u8]) -> Record
     requires { length b.now ≡ 32 }
@@ -58,7 +58,7 @@ pub fn no_record() -> Record
     Record::default()
 }
 
-// The record at place `i`; outside the table, the free one.
+// The record at place `i`; outside the table the free one, as `record_at` of specs/ and the contracts on it have it.
 pub fn record_at(t: &Table, i: usize) -> Record
     ensures { result ≡ record_at (records_of t.now) i }
 {
@@ -95,7 +95,7 @@ fn entry_of(b: &[u8]) -> Entry
     }
 }
 
-// The free entry.
+// The free entry, written out: of an array of 28 the derived default says nothing that a proof here can use.
 pub fn no_entry() -> Entry
     ensures { result ≡ free_entry }
 {
@@ -108,7 +108,7 @@ pub fn no_entry() -> Entry
     }
 }
 
-// The entry at place `j`; outside the table, the free one.
+// The entry at place `j`; outside the table the free one, likewise.
 pub fn entry_at(t: &Table, j: usize) -> Entry
     ensures { result ≡ entry_at (entries_of t.now) j }
 {
@@ -119,7 +119,7 @@ pub fn entry_at(t: &Table, j: usize) -> Entry
     entry_of(&t[a..a + 32])
 }
 
-// ---- writing
+// ---- writing, field by field and for each of the two as in reading
 
 fn lay_head(t: &mut [u8], a: usize, r: Record)
     requires { a + 8 ≤ length t.old }

@@ -1,4 +1,5 @@
 // The layer tables: bytes, names, records, entries, the search of one layer, and the table rules.
+// A table is asked for many places: a place, or a directory and a name, is an argument beside it as that of a slice's `get`, and no struct holds the two.
 #![tactic(auto)]
 
 pub mod bytes;

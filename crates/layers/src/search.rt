@@ -6,7 +6,8 @@ ghost use Rattle.layers.specs.Search.{name_of, is_free, no_record, names, names_
 use crate::items::Table;
 use crate::{bytes, names};
 
-// ---- an entry's fields, in place; outside the table those of the free one
+// ---- an entry's fields, in place; outside the table those of the free one, for which `entry_at` of specs/ and so every contract stands.
+// One function with an offset could not say in its clause which field it answers.
 
 pub fn parent_at(t: &Table, j: usize) -> u8
     ensures { result ≡ (entry_at (entries_of t.now) j).parent }
@@ -47,7 +48,7 @@ pub fn name_at(t: &Table, j: usize) -> &[u8]
     &t[a..a + n]
 }
 
-// ---- a record's first bytes, in place; outside the table those of the free one
+// ---- a record's first bytes, likewise; the bytes and no enum, as a damaged table holds any
 
 pub fn number_at(t: &Table, i: usize) -> u8
     ensures { result ≡ (record_at (records_of t.now) i).number }
@@ -95,7 +96,7 @@ pub fn search(t: &Table, d: u8, x: &[u8]) -> Option<usize>
     (0..128).find(|j| names_at(t, *j, d, x))
 }
 
-// ---- free places
+// ---- free places. Entries and records are told free by another field and counted from 0 and from 1: a function of both would be the `find` itself.
 
 fn is_free(t: &Table, j: usize) -> bool
     ensures { result ≡ is_free (entry_at (entries_of t.now) j) }

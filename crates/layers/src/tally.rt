@@ -7,7 +7,7 @@ ghost use Rattle.layers.specs.RulesTally.{Counted, Parented, FreeFrom, record_ho
 use crate::items::{Record, Table};
 use crate::{free_places, items, kinds, record_rules, search};
 
-// What one pass over the entries collects for each record: how many entries name it, and the parent of the first.
+// What one pass over the entries collects for each record: how many entries name it, and the parent of the first. Parents are bytes as entries hold them, 0 for none.
 #[derive(Drop)]
 struct Tally {
     counts: [u8; 256],

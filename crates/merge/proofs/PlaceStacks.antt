@@ -26,22 +26,16 @@ use Rattle.merge.specs.Classes.{child_at, named, seen_of}
 use Rattle.merge.specs.Scan.{in_directory, is_walked, ends_scan, scanned}
 use Rattle.merge.specs.Stacks.{seen_then, collect}
 use Rattle.merge.specs.Pushes.{no_stack}
-use Rattle.merge.specs.Tops.{or_else, top_place, holds_place, Known, Above}
+use Rattle.merge.specs.Tops.{or_else, top_place, holds_place, Above}
 use Rattle.merge.proofs.ClassLaws.{walked_long}
 use Rattle.merge.proofs.StackLaws.{Left, stack_start}
 use Rattle.merge.proofs.TopPlaces.{outside}
 
 -- ---- an entry that is known
 
-pub not_known : (es : List Entry) (d : ℕ) (x : Name) → Known es d x 128
-not_known es d x = record { entry = λ h. absurd (omega arith) }
-
-pub named_known : (es : List Entry) (d : ℕ) (x : Name) (j r : ℕ) → Known es d x j → j < 128 → r ≡ (entry_at es j).child → r ≡ named es d x
+pub named_known : (es : List Entry) (d : ℕ) (x : Name) (j r : ℕ) → search_of es d x ≡ Some j → r ≡ (entry_at es j).child → r ≡ named es d x
 unfolding child_at
-named_known es d x j r k h e = e ∙ rw (k.entry h) refl
-
-pub known_here : (u l : List ℕ) (a : Pair) (x : Name) (j : ℕ) (t : List ℕ) (w : ℕ) → Known (entries_of (table_of u l a.layer)) a.number x j → t ≡ table_of u l w → w ≡ a.layer → Known (entries_of t) a.number x j
-known_here u l a x j t w k e g = rw (e, g) k
+named_known es d x j r k e = e ∙ rw k refl
 
 -- ---- where the walk starts
 
@@ -225,5 +219,5 @@ module _ (u l : List ℕ) (s : List Pair) (len : ℕ) (x : Name) (q : ℕ) where
     pub passing_above : r ≡ true → Above u l (take len s) x i
     passing_above y = p.above
 
-    pub passing_known : r ≡ true → x ≡ place_name u l q → (j : ℕ) → j ≡ q % 128 → Known (entries_of (table_of u l (get_or s i z).layer)) (get_or s i z).number x j
-    passing_known y w j j_is = rw j_is (record { entry = λ b. own_entry u l x q (get_or s i z) (drop (i + 1) (take len s)) top_front (sym r_is ∙ y) w })
+    pub passing_known : r ≡ true → x ≡ place_name u l q → (j : ℕ) → j ≡ q % 128 → search_of (entries_of (table_of u l (get_or s i z).layer)) (get_or s i z).number x ≡ Some j
+    passing_known y w j j_is = rw j_is (own_entry u l x q (get_or s i z) (drop (i + 1) (take len s)) top_front (sym r_is ∙ y) w)

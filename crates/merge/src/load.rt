@@ -53,8 +53,8 @@ fn has_none(s: &[u8], p: u64, x: &[u8]) -> bool
 }
 
 // Of the first `n` places keeps those, in place, whose name has no node below the node of number `x`; answers how many.
-fn keep_missing(s: &[u8], ls: Layers<'_>, x: u64, p: &mut [u16], n: usize) -> usize
-    requires { (length p.old ≡ 512) × (n ≤ 512) }
+fn keep_missing(s: &[u8], ls: Layers<'_>, x: u64, p: &mut [u16; 512], n: usize) -> usize
+    requires { n ≤ 512 }
     ensures { KeptPlaces (place_has_none ls.entry.upper.now ls.entry.lower.now (nodes_of s.now) x) p.old n result p.new }
 {
     let mut m = 0;
@@ -89,8 +89,8 @@ fn add_name(
     change::put_new_from(s, n, k)
 }
 
-fn add_names(s: &mut [u8], ls: Layers<'_>, p: u32, a: [Pair; 4], d: usize, q: &[u16], m: usize)
-    requires { (length q.now ≡ 512) × (m ≤ 512) × Sorted (λ x. x) (map (place_name ls.upper.now ls.lower.now) (take m q.now)) × Topmost ls.upper.now ls.lower.now (take d a) q.now m }
+fn add_names(s: &mut [u8], ls: Layers<'_>, p: u32, a: [Pair; 4], d: usize, q: &[u16; 512], m: usize)
+    requires { (m ≤ 512) × Sorted (λ x. x) (map (place_name ls.upper.now ls.lower.now) (take m q.now)) × Topmost ls.upper.now ls.lower.now (take d a) q.now m }
     ensures { s.new ≡ add_names ls.entry.upper.now ls.entry.lower.now p (take d a) (map (place_name ls.entry.upper.now ls.entry.lower.now) (take m q.now)) s.old }
 {
     let mut k = 0;
@@ -101,7 +101,7 @@ fn add_names(s: &mut [u8], ls: Layers<'_>, p: u32, a: [Pair; 4], d: usize, q: &[
 
 // ---- the load
 
-fn is_loaded(n: Node) -> bool
+pub fn is_loaded(n: Node) -> bool
     ensures { result ≡ is_loaded n }
 {
     n.loaded != 0
@@ -117,8 +117,7 @@ pub fn has_room(s: &[u8], k: usize) -> bool
 }
 
 // The places that stand for the names to add below the node `n`, put into `p`; answers how many.
-fn to_add(s: &[u8], ls: Layers<'_>, n: Node, p: &mut [u16]) -> usize
-    requires { length p.old ≡ 512 }
+fn to_add(s: &[u8], ls: Layers<'_>, n: Node, p: &mut [u16; 512]) -> usize
     ensures { ToAdd ls.entry.upper.now ls.entry.lower.now s.now n result p.new }
 {
     let k = scan::scan_childrens(ls, n.stack, usize::from(n.depth), p);

@@ -4,17 +4,12 @@ ghost use Rattle.layers.specs.Bytes.{over, part};
 ghost use Rattle.merge.specs.Nodes.{node_of, pairs_of, pair_bytes, number_bytes, rest_bytes, node_bytes, node_name, FitsNumbers, FitsArrays, FitsNode, no_node};
 ghost use Rattle.merge.specs.Methods.{with_number, with_white, with_loaded, with_stack, forgotten, counted, topped, alone};
 
-use crate::stacks::Pair;
+use crate::stacks::{NO_PAIR, Pair};
 
 // A node as it lies in the memory.
 pub type Bytes = [u8; 52];
 
-const NO_PAIR: Pair = Pair {
-    layer: 0,
-    number: 0,
-};
-
-// Every byte of a node's 52 is a field.
+// Every byte of a node's 52 is a field. The marks are bytes and no bool: lent memory may hold any, and `is_white` and `is_loaded` of specs/ answer for any.
 #[derive(Clone, Copy)]
 pub struct Node {
     pub number: u32,
@@ -26,13 +21,6 @@ pub struct Node {
     pub length: u8,
     pub stack: [Pair; 4],
     pub name: [u8; 28],
-}
-
-// A node's number as the calls give it.
-pub fn wide(x: u32) -> u64
-    ensures { (result ≡ x) × (result < 4294967296) }
-{
-    u64::from(x)
 }
 
 // ---- the methods: each takes the node and hands the changed one back
@@ -144,7 +132,7 @@ impl<'a> From<&'a Bytes> for Node {
     }
 }
 
-// No node: every byte 0.
+// No node, as `no_node` of specs/ has it: every byte 0.
 pub fn no_node() -> Node
     ensures { result ≡ no_node }
 {

@@ -11,7 +11,6 @@ use crate::stacks::Pair;
 use crate::tables;
 use crate::tables::Layers;
 use layers::items::Table;
-use std::cmp::Ordering;
 
 // "stop before a whiteout or a non-directory"; a layer that is not there has no directory.
 pub fn is_walked(t: &[u8], d: u8) -> bool
@@ -20,7 +19,7 @@ pub fn is_walked(t: &[u8], d: u8) -> bool
     let Some(t) = t.as_array::<8192>() else {
         return false;
     };
-    layers::search::kind_at(t, usize::from(d)) == 4
+    layers::kinds::is_directory(layers::search::kind_at(t, usize::from(d)))
 }
 
 // The table of a directory that the scan walks.
@@ -45,27 +44,18 @@ pub fn ends_scan(t: &Table, d: u8) -> bool
 // ---- places, kept in byte order of their names
 
 // Where the name `x` belongs among the first `n` places, found by halving.
-fn position(ls: Layers<'_>, p: &[u16], n: usize, x: &[u8]) -> Option<usize>
-    requires { (length p.now ≡ 512) × (n ≤ 512) × Sorted (place_name ls.upper.now ls.lower.now) (take n p.now) }
+fn position(ls: Layers<'_>, p: &[u16; 512], n: usize, x: &[u8]) -> Option<usize>
+    requires { (n ≤ 512) × Sorted (place_name ls.upper.now ls.lower.now) (take n p.now) }
     ensures { result ≡ spot_from (place_name ls.entry.upper.now ls.entry.lower.now) 0 x.now (take n p.now) }
 {
-    let mut lo: usize = 0;
-    let mut hi = n;
-    while lo < hi {
-        let mid = lo + (hi - lo) / 2;
-        let o = layers::names::compare(x, ls.place_name(p[mid]));
-        match o {
-            Ordering::Less => hi = mid,
-            Ordering::Equal => return None,
-            Ordering::Greater => lo = mid + 1,
-        }
-    }
-    Some(lo)
+    p[..n]
+        .binary_search_by(|q| layers::names::compare(ls.place_name(*q), x))
+        .err()
 }
 
 // Puts the place `q` among the first `n`, which stand in order of their names; answers how many there are then.
-fn insert(ls: Layers<'_>, p: &mut [u16], n: usize, q: u16) -> usize
-    requires { (length p.old ≡ 512) × (n < 512) × Sorted (place_name ls.upper.now ls.lower.now) (take n p.old) }
+fn insert(ls: Layers<'_>, p: &mut [u16; 512], n: usize, q: u16) -> usize
+    requires { (n < 512) × Sorted (place_name ls.upper.now ls.lower.now) (take n p.old) }
     ensures { Filled p.old result (insert_by (place_name ls.entry.upper.now ls.entry.lower.now) q (take n p.old)) p.new × (n ≤ result) × (result ≤ n + 1) }
 {
     let Some(i) = position(ls, p, n, ls.place_name(q)) else {
@@ -88,8 +78,16 @@ pub(crate) fn in_directory(t: &Table, j: usize, d: u8) -> bool
 }
 
 // Adds the place `q` of the entry `j` where that stands in the directory `d`.
-fn add_place(ls: Layers<'_>, p: &mut [u16], n: usize, t: &Table, j: usize, d: u8, q: u16) -> usize
-    requires { (length p.old ≡ 512) × (n < 512) × Sorted (place_name ls.upper.now ls.lower.now) (take n p.old) }
+fn add_place(
+    ls: Layers<'_>,
+    p: &mut [u16; 512],
+    n: usize,
+    t: &Table,
+    j: usize,
+    d: u8,
+    q: u16,
+) -> usize
+    requires { (n < 512) × Sorted (place_name ls.upper.now ls.lower.now) (take n p.old) }
     ensures { Filled p.old result (add_place (place_name ls.entry.upper.now ls.entry.lower.now) d q (entry_at (entries_of t.now) j) (take n p.old)) p.new × (n ≤ result) × (result ≤ n + 1) }
 {
     if in_directory(t, j, d) {
@@ -102,12 +100,11 @@ fn place_of(k: u8, j: usize) -> u16
     requires { j < 128 }
     ensures { result ≡ 128 * k + j }
 {
-    128 * (k as u16) + (j as u16)
+    128 * u16::from(k) + j as u16
 }
 
 // Fills `p` with the places that stand for the names below the first `len` of the stack `s`; answers how many.
-pub fn scan_childrens(ls: Layers<'_>, s: [Pair; 4], len: usize, p: &mut [u16]) -> usize
-    requires { length p.old ≡ 512 }
+pub fn scan_childrens(ls: Layers<'_>, s: [Pair; 4], len: usize, p: &mut [u16; 512]) -> usize
     ensures { Filled p.old result (merged_places ls.entry.upper.now ls.entry.lower.now (take len s)) p.new × (result ≤ 512) }
 {
     let mut n = 0;

@@ -38,7 +38,7 @@ pub fn bytes_at(s: &[u8], j: usize) -> &[u8]
     b
 }
 
-// ---- a node's fields, in place
+// ---- a node's fields, in place; one function with an offset could not say in its clause which field it answers
 
 #[tactic(auto, using(layers::proofs::Numbers::number_in), unfolding(crate::specs::Nodes::node_of))]
 fn number_in(b: &Bytes) -> u32

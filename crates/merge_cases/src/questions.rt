@@ -37,7 +37,7 @@ pub fn load(out: &mut impl Write, state: &mut [u8], tables: &Tables, number: u64
     }
 }
 
-// The root's node, not loaded yet.
+// The root's node, not loaded yet: by the functions of merge, which is what these cases try; `import::root_node` is of calls.
 fn root_node(tables: &Tables) -> Node {
     let stack = merge::stacks::root_stack(tables.layers());
     let n = merge::load::new_node(0, stack, b"");

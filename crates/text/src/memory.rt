@@ -2,7 +2,7 @@
 
 ghost use Rattle.std.specs.Prelude.{◌≡◌, take};
 
-// The first `n` items, all of them where there are fewer.
+// The first `n` items, all of them where there are fewer; and the same to write in, as std has `first` and `first_mut`: no function is generic over the kind of a borrow.
 pub fn first<T>(t: &[T], n: usize) -> &[T]
     ensures { result.now ≡ take n t.now }
 {

@@ -5,8 +5,8 @@ use Rattle.calls.proofs.page.put_children.Goals as goal
 pub overflow_add-k : goal.overflow_add-k
 overflow_add-k c = search (next_child, rules)
 
-pub returns-in_default-put_child : goal.returns-in_default-put_child
-returns-in_default-put_child c = search (children_walk, rules)
+pub returns-in_default-put_entry : goal.returns-in_default-put_entry
+returns-in_default-put_entry c = search (children_walk, rules)
 
 pub overflow_add-i : goal.overflow_add-i
 overflow_add-i c = search (next_child, rules)

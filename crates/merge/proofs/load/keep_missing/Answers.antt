@@ -1,17 +1,16 @@
 use Rattle.merge.proofs.LoadLaws.{keep_start, keep_missing, skip_resident, keep_end}
-use lib.ListN.{length-set}
 use borrow.Author.Rules.{rules}
 use Rattle.merge.proofs.load.keep_missing.Goals.{then-has_none, else-has_none}
 use Rattle.merge.proofs.load.keep_missing.Goals as goal
 
 pub loop-i-init : goal.loop-i-init
-loop-i-init c = (search rules, search (keep_start, rules))
+loop-i-init c = let l = c.told-p in search (keep_start, rules)
 
 pub loop-i-preserved : goal.loop-i-preserved
 loop-i-preserved c =
     elim c.if-has_none.branch [
-      | then-has_none w ↦ let h = w.if-has_none.true in rw (w.p-is, w.m-is) (simp length-set (search rules), search (keep_missing, rules))
-      | else-has_none w ↦ let h = w.if-has_none.false in rw (w.p-is, w.m-is) (search rules, search (skip_resident, rules))
+      | then-has_none w ↦ let h = w.if-has_none.true in let l = c.told-p in rw (w.p-is, w.m-is) (search (keep_missing, rules))
+      | else-has_none w ↦ let h = w.if-has_none.false in let l = c.told-p in rw (w.p-is, w.m-is) (search (skip_resident, rules))
     ]
 
 pub returns : goal.returns

@@ -7,7 +7,7 @@ pub returns-then-is_loaded : goal.returns-then-is_loaded
 returns-then-is_loaded c = (search (loaded_before, rules), search (loaded_same, rules))
 
 pub add_names-requires : goal.add_names-requires
-add_names-requires c = (search rules, search rules, to_add_sorted _ _ _ _ _ _ c.to_add-m.ensures, to_add_topmost _ _ _ _ _ _ _ c.to_add-m.ensures c.from.ensures)
+add_names-requires c = (search rules, to_add_sorted _ _ _ _ _ _ c.to_add-m.ensures, to_add_topmost _ _ _ _ _ _ _ c.to_add-m.ensures c.from.ensures)
 
 pub returns-then-has_room : goal.returns-then-has_room
 returns-then-has_room c = (search (load_done, rules), search (load_added, rules))

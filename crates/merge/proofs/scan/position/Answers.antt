@@ -1,18 +1,15 @@
-use Rattle.layers.proofs.SortLaws.{halved_start, halved_end, halved_before, halved_same, halved_after}
+use mathlib.Core.Path.{◌∙◌}
+use lib.ListN.{take}
+use Rattle.std.proofs.lemmas.Fn.{always_returns_same}
+use Rattle.layers.specs.Names.{order_of}
+use Rattle.layers.proofs.SortLaws.{searched_spot}
+use Rattle.merge.specs.Tables.{place_name}
 use borrow.Author.Rules.{rules}
 use Rattle.merge.proofs.scan.position.Goals as goal
 
-pub loop-lo-init : goal.loop-lo-init
-loop-lo-init c = search (halved_start, rules)
-
-pub loop-lo-preserved-in-Less : goal.loop-lo-preserved-in-Less
-loop-lo-preserved-in-Less c = search (halved_before, rules)
-
-pub returns-in-Equal : goal.returns-in-Equal
-returns-in-Equal c = search (halved_same, rules)
-
-pub loop-lo-preserved : goal.loop-lo-preserved
-loop-lo-preserved c = search (halved_after, rules)
-
 pub returns : goal.returns
-returns c = search (halved_end, rules)
+returns c =
+    let f = place_name c.args.ls.upper.now c.args.ls.lower.now in
+    c.err.ensures.value
+    ∙ searched_spot f c.args.x.now 0 (take c.args.n c.args.p.now) c.binary_search_by.result c.requires.1 c.binary_search_by.ensures.bound
+    (c.binary_search_by.ensures.position (λ y. order_of (f y) c.args.x.now) (always_returns_same _ _ _ (λ a r g k. search rules)))

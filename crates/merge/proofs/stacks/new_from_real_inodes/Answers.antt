@@ -1,6 +1,6 @@
-use Rattle.merge.proofs.PlaceStacks.{not_known, above_none}
+use Rattle.merge.proofs.PlaceStacks.{above_none}
 use borrow.Author.Rules.{rules}
 use Rattle.merge.proofs.stacks.new_from_real_inodes.Goals as goal
 
 pub stack_from-requires : goal.stack_from-requires
-stack_from-requires c = (search rules, search (above_none, rules), search (not_known, rules))
+stack_from-requires c = (search rules, search (above_none, rules), tt)
