@@ -60,7 +60,7 @@ fn make_directory(s: &mut [u8], upper: &mut Table, lower: &[u8], k: usize)
 }
 
 // The directory at place `k` in the upper layer, after the missing ones above it; at most `depth` of them.
-// It calls itself, as `made_upper` of specs/ and the Rust do: the way down again is kept by the calls, where a list of places would want a buffer.
+// It calls itself, as `made_upper` of specs/ and fuse-backend-rs do: the way down again is kept by the calls; a loop would want the 16 places in an array first, which is no plainer.
 pub(crate) fn create_upper_dir(
     s: &mut [u8],
     upper: &mut Table,

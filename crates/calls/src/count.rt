@@ -34,7 +34,7 @@ pub fn child_counts(s: &[u8], x: u64) -> usize
     n
 }
 
-// The tests before the load; the directory's place. No name is tested here as in `lookup_place`, and what the two share is `parent_place`.
+// The tests before the load; the directory's place. `lookup_place` tests a name as well; what the two share are `lengths_fit` and `parent_place`.
 fn counted_place(s: &[u8], ls: Layers<'_>, x: u64) -> Result<usize, Refusal>
     ensures { result ≡ after_tests (count_before ls.entry.upper.now ls.entry.lower.now s.now x) (Ok (place_numbered s.now x)) }
 {

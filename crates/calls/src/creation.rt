@@ -18,7 +18,7 @@ use merge::{stacks, state};
 
 // ---- the order of tests
 
-// Of a known parent, where there is an upper layer: 2 whiteout, 20; `parent_place` has the same two behind the search, where 30 comes between here (01).
+// Of a known parent, where there is an upper layer: 2 whiteout, 20. `parent::parent_place` tries the same two right behind its search, where 30 comes between here (01).
 fn parent_node(ls: Layers<'_>, n: Node, k: usize) -> Result<usize, Refusal>
     ensures { result ≡ after_tests (parent_node ls.entry.upper.now ls.entry.lower.now n) (Ok k) }
 {
@@ -31,7 +31,7 @@ fn parent_node(ls: Layers<'_>, n: Node, k: usize) -> Result<usize, Refusal>
     Err(Refusal::Enotdir)
 }
 
-// The tests before the load; the parent's place. `bad` is a flag for `creation`'s reason.
+// The tests before the load; the parent's place. `bad` is a flag for the reason given at `creation`.
 fn creation_place(s: &[u8], ls: Layers<'_>, bad: bool, p: u64, x: &[u8]) -> Result<usize, Refusal>
     ensures { result ≡ after_tests (creation_before ls.entry.upper.now ls.entry.lower.now s.now bad p x.now) (Ok (place_numbered s.now p)) }
 {
@@ -76,7 +76,7 @@ fn creation_tests(s: &[u8], upper: &Table, w: Target, x: &[u8], r: Record) -> Re
 
 // ---- what is written
 
-// The record, its entry and the name's node, in a directory that is in the upper layer; the node's number, 0 for none by `filled_number` of specs/.
+// The record, its entry and the name's node, in a directory that is in the upper layer; the node's number, 0 where no node could be put in (`named_number` of specs/).
 fn fill(s: &mut [u8], upper: &mut Table, w: Target, x: &[u8], r: Record) -> u32
     ensures { (result ≡ filled_number w.dir w.seat x.now (up upper.old s.old)) × (upper.new ≡ (filled w.dir w.seat x.now r (up upper.old s.old)).table) × (s.new ≡ (filled w.dir w.seat x.now r (up upper.old s.old)).state) }
 {
@@ -144,14 +144,14 @@ fn creation(
     create_in(s, upper.as_mut_array().unwrap(), lower, p, x, r)
 }
 
-// The bits of `permissions` that the umask leaves. A call gets the two one by one (ABI.md), and they are tested and joined here at once: no struct holds them.
+// The bits of `permissions` that the umask leaves. A call gets the two one by one (ABI.md); `bad_mode` tests them and `made_record` joins them, and nothing behind a record has the umask.
 fn without_umask(permissions: u32, umask: u32) -> u16
     ensures { result ≡ bit_and permissions (4095 - umask) }
 {
     (permissions & 4095u32.saturating_sub(umask)) as u16
 }
 
-// A new record, its number yet to be given; its kind is the byte that a record holds, as mknod is handed one.
+// A new record, its number yet to be given; its kind is a byte, 0 where mknod's number is no kind's (`number_or_zero` in `mknod_spec`).
 fn made_record(kind: u8, permissions: u32, umask: u32, device: u64, content: u64) -> Record
     ensures { result ≡ made_record kind permissions umask device content }
 {

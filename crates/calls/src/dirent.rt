@@ -1,4 +1,4 @@
-// An entry of a listing, written into the caller's buffer as the FUSE dirent; its type is a byte of that, whatever the record holds.
+// An entry of a listing, written into the caller's buffer as the FUSE dirent; its type is the record's byte, which may be no kind's (`type_of` of specs/).
 ghost use Rattle.std.specs.Prelude.{◌≡◌, ◌++◌, ◌+◌, ◌%◌, ◌≤◌, ◌<◌, length, replicate};
 ghost use Rattle.layers.specs.Bytes.{least, over, le_bytes};
 ghost use Rattle.calls.specs.Dirents.{dirent, padding, dirent_bytes, put_answer, put_dirent};

@@ -1,5 +1,5 @@
 // The calls, each one total function of the lent memory, and the same as C has them.
-// The state and the writable upper table go from function to function as they are lent: each call changes both, and a struct that lends slices so got no proof (tried in replay).
+// A call that writes the upper layer changes the state and that: the two go from function to function as they are lent. A struct of two lent to be written got no proof (tried in replay).
 // A node's place or number beside the state is an argument as that of a slice's `get`: one call asks for the source, the parent and the child of one state.
 // `as` stands where std has no `From` between usize and the other width, or where a `TryFrom` would have an error that a bound in the proof excludes.
 #![tactic(auto)]

@@ -1,5 +1,5 @@
 // Link: a further name of a record, in a directory of the upper layer.
-// Its tests and steps have the shape of a creation's and other errnos in another order (01): one function of both would be handed each test. What is the same stands in `writing`.
+// Its tests have the order of a creation's but for 1, which is of the source here and before 20 (01), and it tests two nodes before the load. Where the name stands is in `writing`.
 ghost use Rattle.std.specs.Prelude.{◌≡◌, Ok, IfSome};
 ghost use Rattle.merge.specs.Nodes.{nodes_of, node_at};
 ghost use Rattle.calls.specs.Refusal.{after_tests};
@@ -95,7 +95,7 @@ fn prepare(s: &mut [u8], upper: &mut Table, lower: &[u8], j: usize, w: Target)
     copy_up::create_upper_dir(s, upper, lower, w.dir, 16);
 }
 
-// The entry and the name's node; the node's number, 0 for none by `linked_number` of specs/.
+// The entry and the name's node; the node's number, 0 where no node could be put in (`named_number` of specs/).
 fn put_link(s: &mut [u8], upper: &mut Table, j: usize, w: Target, x: &[u8]) -> u32
     ensures { (result ≡ linked_number j w.dir w.seat x.now (up upper.old s.old)) × (upper.new ≡ (linked j w.dir w.seat x.now (up upper.old s.old)).table) × (s.new ≡ (linked j w.dir w.seat x.now (up upper.old s.old)).state) }
 {

@@ -57,7 +57,7 @@ fn put_entry(
     writer::append_dirent(buf, at, w.limit, u64::from(p.number), index, k, name)
 }
 
-// ---- the entries of the children, and the page; the walk goes by `child_from`, which skips other directories' nodes without reading them, as no range does
+// ---- the entries of the children, and the page; the walk goes by `child_from`, which of the nodes passed reads the parent's number alone; a range would read each node out
 
 fn put_children(buf: &mut [u8], start: usize, w: Window, s: &[u8], ls: Layers<'_>, x: u64) -> Page
     ensures { ◌≡◌ {A = Filled} (record { page = result; buffer = buf.new }) (fill w.offset w.limit 2 start buf.old (child_dirents ls.entry.upper.now ls.entry.lower.now x (nodes_of s.now))) }

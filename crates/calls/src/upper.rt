@@ -1,5 +1,5 @@
 // What a creation, a copy-up and a link write: a record and an entry of the upper layer, and the stack of the name's node.
-// Records and nodes are numbered from 1: 0 is that there is none in `new_record`, `named_number` and `added_for` of specs/, and so in the answers here.
+// Records and nodes are numbered from 1: 0 says that there is none, in `new_record` and `named_number` of specs/ and so in the answers here.
 ghost use Rattle.std.specs.Prelude.{◌≡◌, ◌<◌, length};
 ghost use Rattle.calls.specs.Parents.{top_of};
 ghost use Rattle.merge.specs.Stacks.{pair};

@@ -11,7 +11,7 @@ pub struct Writer<'a> {
     pub at: usize,
 }
 
-// Writes the entry of this index where the writer stands; the kind is a byte for the reason of `dirent`. The writer is taken apart, and the function on its buffer and its position is called.
+// Writes the entry of this index where the writer stands; the kind is the record's byte, which may be no kind's (`type_of` of specs/). The writer is taken apart, and the function on its buffer and its position is called.
 pub fn append<'a, 'b>(
     w: Writer<'a>,
     limit: usize,

@@ -28,7 +28,7 @@ pub fn add_entry(t: &mut Table, e: Entry) -> Option<usize>
     Some(k)
 }
 
-// Puts a record at the lowest free place, which becomes its number (at most 128, so the cast loses nothing); where none is free, nothing changes. An entry gets no number: of `add_entry` only the shape is the same.
+// Puts a record at the lowest free place, which becomes its number (at most 128, so the cast loses nothing); where none is free, nothing changes. An entry gets no number: `add_entry` has the same shape and no more.
 pub fn add_record(t: &mut Table, r: Record) -> Option<usize>
     ensures { AddRecord t.old r result t.new }
 {

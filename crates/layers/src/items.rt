@@ -32,7 +32,7 @@ pub struct Entry {
     pub name: [u8; 28],
 }
 
-// ---- reading, field by field as ABI.md lays them; records and entries share no field, bound or offset that a trait of both could say once
+// ---- reading, field by field as ABI.md lays them; records and entries share no field, first place or offset that a trait of both could say once
 
 fn record_of(b: &[u8]) -> Record
     requires { length b.now ≡ 32 }

@@ -6,7 +6,7 @@ ghost use Rattle.layers.specs.Search.{name_of, is_free, no_record, names, names_
 use crate::items::Table;
 use crate::{bytes, names};
 
-// ---- an entry's fields, in place; outside the table those of the free one, for which `entry_at` of specs/ and so every contract stands.
+// ---- an entry's fields, in place; outside the table those of the free one, as `entry_at` of specs/, on which the contracts stand, answers there.
 // One function with an offset could not say in its clause which field it answers.
 
 pub fn parent_at(t: &Table, j: usize) -> u8
@@ -96,7 +96,7 @@ pub fn search(t: &Table, d: u8, x: &[u8]) -> Option<usize>
     (0..128).find(|j| names_at(t, *j, d, x))
 }
 
-// ---- free places. Entries and records are told free by another field and counted from 0 and from 1: a function of both would be the `find` itself.
+// ---- free places. Entries and records are told free by different fields and counted from 0 and from 1: a function of both would be the `find` itself.
 
 fn is_free(t: &Table, j: usize) -> bool
     ensures { result ≡ is_free (entry_at (entries_of t.now) j) }

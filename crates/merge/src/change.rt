@@ -42,7 +42,7 @@ fn spot_from(s: &[u8], n: Node, k: usize) -> Option<usize>
     state::place_from(s, n.parent, n.name_bytes(), k)
 }
 
-// The same, from the first node on: what holds of 0 nodes no caller has to prove.
+// The same, from the first node on: `Passed` of 0 nodes holds of itself, so a caller of this one proves nothing.
 pub fn spot_for(s: &[u8], n: Node) -> Option<usize>
     ensures { result ≡ spot_for s.now n }
 {

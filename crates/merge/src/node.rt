@@ -9,7 +9,7 @@ use crate::stacks::{NO_PAIR, Pair};
 // A node as it lies in the memory.
 pub type Bytes = [u8; 52];
 
-// Every byte of a node's 52 is a field. The marks are bytes and no bool: lent memory may hold any, and `is_white` and `is_loaded` of specs/ answer for any.
+// Every byte of a node's 52 is a field. The marks are bytes, not bools: lent memory may hold any, and `is_loaded` of specs/ and `is_white` of calls answer for any.
 #[derive(Clone, Copy)]
 pub struct Node {
     pub number: u32,
@@ -102,6 +102,7 @@ impl Node {
 
 // ---- a node's bytes
 
+// The four written out, as in `pairs_of` of specs/: the check finds this alone, where a loop would want an invariant.
 #[tactic(auto, unfolding(crate::specs::Nodes::pairs_of))]
 fn stack_of(b: &Bytes) -> [Pair; 4]
     ensures { result ≡ pairs_of (drop 16 b.now) }
@@ -159,6 +160,7 @@ fn lay_numbers(t: &mut [u8], a: usize, n: Node)
     layers::bytes::put_number(t, a + 8, n.count);
 }
 
+// Likewise.
 #[tactic(auto, unfolding(crate::specs::Nodes::pair_bytes))]
 fn pair_bytes(ps: [Pair; 4]) -> [u8; 8]
     ensures { (result ≡ pair_bytes ps) × (length ps ≡ 4) }

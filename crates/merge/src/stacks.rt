@@ -111,7 +111,7 @@ fn seen_known(t: &Table, d: u8, x: &[u8], known: Option<usize>) -> Option<(Class
     Some((class_at(t, d, n), n))
 }
 
-// What `x` is in the directory `d`: asked so by every caller that knows no place, and nothing has to be proved of one.
+// What `x` is in the directory `d`. Public as before, and asks nothing; nothing here calls it.
 pub fn seen_in(t: &Table, d: u8, x: &[u8]) -> Option<(Class, u8)>
     ensures { result ≡ seen_of t.now d x.now }
 {

@@ -30,7 +30,7 @@ impl<'a> Layers<'a> {
         self.lower[a..a + 8192].as_array()
     }
 
-    // The name at place `q` of all layers, 128 places a layer; of no layer no bytes, as `place_name` of specs/ says.
+    // The name at place `q` of all layers, 128 places a layer; of no layer no bytes, as `place_name` of specs/ comes to.
     pub fn place_name(self, q: u16) -> &'a [u8]
         ensures { result.now ≡ place_name self.entry.upper.now self.entry.lower.now q }
     {
