@@ -56,7 +56,7 @@ number_is (Some i) = refl
 number_is None = refl
 
 module _ (t : List ℕ) (r : Record) (f : Option ℕ) (t₁ : List ℕ) (a : AddRecord t r f t₁) where
-  new_fits : record_number f < 256
+  pub new_fits : record_number f < 256
   unfolding record_number
   new_fits = go f a.place
     where

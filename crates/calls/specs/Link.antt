@@ -64,7 +64,7 @@ linked_at u l s x j k f t e =
     (linked j k t x (linkable l j k f e (up u s)))
     (linked_number j k t x (linkable l j k f e (up u s)))
 
--- what the function behind the load asks: the source is where it was found, unless the load changed the state
+-- what holds behind the load: the source is where it was found, unless the load changed the state
 pub record Still (b : Bool) (f : Option ℕ) (s : List ℕ) (n : ℕ) : Type 0 where
   pub still : b ≡ true → f ≡ find_number (nodes_of s) n
 

@@ -37,7 +37,8 @@ fn type_of(ls: Layers<'_>, p: Pair) -> u8
     layers::search::kind_at(t, usize::from(p.number))
 }
 
-// The entry of the node `n` under a name; one below the offset is passed over.
+// The entry of the node `n` under a name; one below the offset is passed over. Inlined, as a call at each entry would copy the node, and a listing take half as long again.
+#[inline(always)]
 fn put_entry(
     buf: &mut [u8],
     at: usize,

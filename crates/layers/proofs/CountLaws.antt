@@ -1,10 +1,14 @@
 -- How many items pass a test, and which. Assumes nothing.
 use mathlib.Core.Path.{◌≡◌, refl, sym, ap, ◌∙◌}
 use Prim.Native.Nat.{ℕ, zero, suc, ◌+◌, ◌≤◌, ◌<◌}
+use native.Mathlib.Nat.{add-zero, add_assoc}
+use native.Mathlib.Numerals.{add-one}
 use native.Mathlib.Omega.{arith}
 use mathlib.Core.Bool.{Bool, true, false}
 use mathlib.Core.List.{List, [], ◌∷◌}
-use lib.ListN.{length, get_or}
+use lib.ListN.{length, drop, get_or, drop_of_length-le}
+use lib.Seq.{drop-cons}
+use mir.Val.{bool_byte}
 use Rattle.layers.specs.Search.{one, count_if}
 use Rattle.layers.proofs.EveryLaws.{no_true}
 
@@ -81,3 +85,33 @@ count_below p (x ∷ xs) = go (p x) (count_below p xs)
     go : (b : Bool) → count_if p xs ≤ length xs → one b + count_if p xs ≤ suc (length xs)
     go true h = omega arith
     go false h = omega arith
+
+-- ---- how many pass, walked: `m` in all
+
+one_at_most : (b : Bool) → one b ≤ 1
+unfolding one
+one_at_most true = omega arith
+one_at_most false = omega arith
+
+byte_is_one : (b : Bool) → bool_byte b ≡ one b
+unfolding one
+byte_is_one true = refl
+byte_is_one false = refl
+
+module _ (r : ℕ) (a b : Bool) (r_is : r ≡ bool_byte a) (a_is : a ≡ b) where
+  pub counts_one : r ≡ one b
+  counts_one = r_is ∙ (ap bool_byte a_is ∙ byte_is_one b)
+
+  pub counts_at_most : r ≤ 1
+  counts_at_most = rw counts_one (one_at_most b)
+
+module _ {A : Type 0} (p : A → Bool) (xs : List A) (d : A) (i n m : ℕ) where
+  pub count_next : (r k : ℕ) → r ≡ one (p (get_or xs i d)) → length xs ≡ k → i < k → n + count_if p (drop i xs) ≡ m → n + r + count_if p (drop (i + 1) xs) ≡ m
+  unfolding count_if
+  count_next r k e l h w =
+      let s : count_if p (drop i xs) ≡ r + count_if p (drop (i + 1) xs) = rw (add-one i, drop-cons xs i d (omega arith), ← e) refl in
+      add_assoc n r (count_if p (drop (i + 1) xs)) ∙ (ap (λ (z : ℕ). n + z) (sym s) ∙ w)
+
+  pub count_end : (k : ℕ) → length xs ≡ k → k ≤ i → n + count_if p (drop i xs) ≡ m → n ≡ m
+  unfolding count_if
+  count_end k l h w = sym (add-zero n) ∙ (ap (λ (z : ℕ). n + z) (sym (rw (drop_of_length-le xs {i = i} (omega arith)) refl)) ∙ w)

@@ -1,12 +1,16 @@
 -- The order of names is one: of two names one comes first, and what comes before the earlier comes before the later. Assumes nothing.
 use mathlib.Core.Path.{◌≡◌, refl, sym, ap₂, ◌∙◌}
+use Rattle.std.specs.declared.cmp.Ordering.{Ordering}
 use Rattle.std.specs.declared.cmp.Ordering.TheVariants.{Less, Equal, Greater}
 use mathlib.Core.Logic.{◌⊎◌, inl, inr, ⊎_elim}
-use Prim.Native.Nat.{ℕ, ◌≤◌, ◌<◌}
+use Prim.Native.Nat.{ℕ, suc, ◌+◌, ◌≤◌, ◌<◌, min}
 use native.Mathlib.Omega.{arith}
+use native.Mathlib.Numerals.{add-one}
 use mathlib.Core.Bool.{Bool, true, false}
 use mathlib.Core.List.{[], ◌∷◌}
 use lib.Dec.{ltb}
+use lib.ListN.{length, drop, get_or, drop_of_length-le}
+use lib.Seq.{drop-cons}
 use borrow.Author.Tests.{eq-eqb, ne_eqb, lt-ltb, le-ltb, ltb-true, ltb-false}
 use Rattle.std.specs.Ordering.{nat_cmp}
 use Rattle.std.specs.Cmp.Lexicographic.{slice_cmp}
@@ -48,6 +52,38 @@ order_as (x ∷ xs) (y ∷ ys) =
     (λ l. rw (lt-ltb x y l) refl)
     (λ e. rw (le-ltb x y (omega arith), le-ltb y x (omega arith), eq-eqb x y e) (order_as xs ys))
     (λ g. rw (le-ltb x y (omega arith), lt-ltb y x g, ne_eqb x y (λ e. omega arith)) refl)
+
+-- ---- two names that are alike before byte `i`
+
+byte_decides : (x y : ℕ) (xs ys : Name) → (x ≡ y → ⊥) → nat_cmp x y ≡ order_of (x ∷ xs) (y ∷ ys)
+unfolding order_of
+byte_decides x y xs ys d =
+    three x y
+    (λ l. rw (lt-ltb x y l) refl)
+    (λ e. absurd (d e))
+    (λ g. rw (le-ltb x y (omega arith), lt-ltb y x g, ne_eqb x y d) refl)
+
+module _ (a b : Name) (i : ℕ) where
+  byte_step : i < length a → i < length b → order_of (drop i a) (drop i b) ≡ order_of (get_or a i 0 ∷ drop (suc i) a) (get_or b i 0 ∷ drop (suc i) b)
+  byte_step m n = rw (drop-cons a i 0 m, drop-cons b i 0 n) refl
+
+  pub order_next : i < length a → i < length b → get_or a i 0 ≡ get_or b i 0 → order_of (drop i a) (drop i b) ≡ order_of a b → order_of (drop (i + 1) a) (drop (i + 1) b) ≡ order_of a b
+  order_next m n e h = rw (add-one i) (sym (order_eq (get_or a i 0) (get_or b i 0) (drop (suc i) a) (drop (suc i) b) e) ∙ (sym (byte_step m n) ∙ h))
+
+  pub order_differs : (o : Ordering) → i < length a → i < length b → (get_or a i 0 ≡ get_or b i 0 → ⊥) → o ≡ nat_cmp (get_or a i 0) (get_or b i 0) → order_of (drop i a) (drop i b) ≡ order_of a b → o ≡ order_of a b
+  order_differs o m n d c h = c ∙ (byte_decides (get_or a i 0) (get_or b i 0) (drop (suc i) a) (drop (suc i) b) d ∙ (sym (byte_step m n) ∙ h))
+
+  -- one of them has ended
+  lengths_decide : i ≡ min (length a) (length b) → nat_cmp (length a) (length b) ≡ order_of (drop i a) (drop i b)
+  unfolding order_of
+  lengths_decide e =
+      three (length a) (length b)
+      (λ l. rw (lt-ltb (length a) (length b) l, drop_of_length-le a {i = i} (omega arith), drop-cons b i 0 (omega arith)) refl)
+      (λ s. rw (drop_of_length-le a {i = i} (omega arith), drop_of_length-le b {i = i} (omega arith), le-ltb (length a) (length b) (omega arith), eq-eqb (length a) (length b) s) refl)
+      (λ g. rw (le-ltb (length a) (length b) (omega arith), ne_eqb (length a) (length b) (λ s. omega arith), drop-cons a i 0 (omega arith), drop_of_length-le b {i = i} (omega arith)) refl)
+
+  pub order_ended : (o : Ordering) → i ≡ min (length a) (length b) → o ≡ nat_cmp (length a) (length b) → order_of (drop i a) (drop i b) ≡ order_of a b → o ≡ order_of a b
+  order_ended o e c h = c ∙ (lengths_decide e ∙ h)
 
 -- how the first bytes decide
 pub before_cons : (x y : ℕ) (xs ys : Name) → order_of (x ∷ xs) (y ∷ ys) ≡ Less → (x < y) ⊎ ((x ≡ y) × (order_of xs ys ≡ Less))

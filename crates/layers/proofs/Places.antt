@@ -92,7 +92,7 @@ module _ (t : List ℕ) (j : ℕ) where
   no_name x h e = e ∙ ap name_of (entry_past t j free_entry refl h)
 
   -- a name's length byte above 28 gives the whole 28
-  long_name : (n b : ℕ) (x : List ℕ) → j ≤ 127 → length t ≡ 8192 → b ≡ (entry_at (entries_of t) j).length → n ≡ b → 28 < n
+  pub long_name : (n b : ℕ) (x : List ℕ) → j ≤ 127 → length t ≡ 8192 → b ≡ (entry_at (entries_of t) j).length → n ≡ b → 28 < n
       → x ≡ part t (4096 + 32 * j + 4) (4096 + 32 * j + 4 + 28 - (4096 + 32 * j + 4)) → x ≡ name_of (entry_at (entries_of t) j)
   long_name n b x h l p q g e =
       let w : 4096 + 32 * j + 4 + 28 - (4096 + 32 * j + 4) ≡ 28 = omega arith in
@@ -101,7 +101,7 @@ module _ (t : List ℕ) (j : ℕ) where
       (rw (name_is h l, ← p)
       (take_all b (part t (4096 + 32 * j + 4) 28) (simp (length-take, length-drop) (omega arith))))
 
-  short_name : (n b : ℕ) (x : List ℕ) → j ≤ 127 → length t ≡ 8192 → b ≡ (entry_at (entries_of t) j).length → n ≡ b → n ≤ 28
+  pub short_name : (n b : ℕ) (x : List ℕ) → j ≤ 127 → length t ≡ 8192 → b ≡ (entry_at (entries_of t) j).length → n ≡ b → n ≤ 28
       → x ≡ part t (4096 + 32 * j + 4) (4096 + 32 * j + 4 + n - (4096 + 32 * j + 4)) → x ≡ name_of (entry_at (entries_of t) j)
   short_name n b x h l p q g e =
       let w : 4096 + 32 * j + 4 + n - (4096 + 32 * j + 4) ≡ b = omega arith in

@@ -1,5 +1,5 @@
 -- Names in byte order, each once; and places in the order of what they stand for. Assumes nothing.
-use Rattle.std.specs.Prelude.{ℕ, suc, ◌-◌, List, [], ◌∷◌, ◌++◌, cond, eqb, leb, ltb, length, take, drop, Option, Some, None}
+use Rattle.std.specs.Prelude.{◌≡◌, ℕ, suc, ◌-◌, ◌<◌, List, [], ◌∷◌, ◌++◌, cond, eqb, leb, ltb, length, take, drop, Option, Some, None}
 use Rattle.std.specs.declared.cmp.Ordering.{Ordering}
 use Rattle.std.specs.declared.cmp.Ordering.TheVariants.{Less, Equal, Greater}
 use Rattle.layers.specs.Bytes.{part}
@@ -24,6 +24,10 @@ spot_step Greater k s = s
 unfoldable pub spot_from : {A : Type 0} → (A → Name) → ℕ → Name → List A → Option ℕ
 spot_from f k x [] = Some k
 spot_from f k x (y ∷ ys) = spot_step (order_of x (f y)) k (spot_from f (suc k) x ys)
+
+-- an answer to a place, which is a number of two bytes, is how `x` stands to the name of that place
+abbrev pub Tells : (ℕ → Ordering → Type 0) → (ℕ → Name) → Name → Type 0
+Tells answers f x = (q : ℕ) (o : Ordering) → q < 65536 → answers q o → o ≡ order_of x (f q)
 
 -- `q` at place `i` of the first `n`, those from `i` on moved down by one
 abbrev pub inserted : List ℕ → ℕ → ℕ → ℕ → List ℕ

@@ -53,6 +53,18 @@ pub fn malformed(x: &[u8]) -> bool
     x.is_empty() || x.contains(&0) || x.contains(&b'/') || same_name(x, b".") || same_name(x, b"..")
 }
 
+// Byte by byte, a prefix first; `cmp` of std looks for runs of many bytes first, which short names do not have.
+fn compare_bytes(a: &[u8], b: &[u8]) -> Ordering
+    ensures { result ≡ order_of a.now b.now }
+{
+    for i in 0..a.len().min(b.len()) {
+        if a[i] != b[i] {
+            return a[i].cmp(&b[i]);
+        }
+    }
+    a.len().cmp(&b.len())
+}
+
 // "in byte order, a prefix first": by numbers of 4 bytes, which takes a third of the time of `cmp`, and what is left by bytes.
 pub fn compare(a: &[u8], b: &[u8]) -> Ordering
     ensures { result ≡ order_of a.now b.now }
@@ -65,7 +77,7 @@ pub fn compare(a: &[u8], b: &[u8]) -> Ordering
             return x.cmp(&y);
         }
     }
-    a[4 * n..].cmp(&b[4 * n..])
+    compare_bytes(&a[4 * n..], &b[4 * n..])
 }
 
 // A name with zeros behind it.

@@ -130,7 +130,11 @@ pub fn free_record(t: &Table) -> Option<usize>
 pub fn used_entries(t: &Table) -> usize
     ensures { (result ≡ used_entries (entries_of t.now)) × (result ≤ 128) }
 {
-    (0..128).filter(|j| !is_free(t, *j)).count()
+    let mut n = 0;
+    for j in 0..128 {
+        n += usize::from(!is_free(t, j));
+    }
+    n
 }
 
 // Whether at least `n` entry places are free: the lowest are taken first, so the walk starts at the highest, and ends at the n-th.
@@ -144,7 +148,11 @@ pub fn has_free_entries(t: &Table, n: usize) -> bool
 pub fn used_records(t: &Table) -> usize
     ensures { (result ≡ used_records (records_of t.now)) × (result ≤ 128) }
 {
-    (1..129).filter(|i| !no_record_at(t, *i)).count()
+    let mut n = 0;
+    for i in 1..129 {
+        n += usize::from(!no_record_at(t, i));
+    }
+    n
 }
 
 // Whether at least `n` record places are free, walked like the entries.
@@ -169,5 +177,9 @@ fn names_record(t: &Table, j: usize, r: u8) -> bool
 pub fn naming_entries(t: &Table, r: u8) -> usize
     ensures { (result ≡ naming r (entries_of t.now)) × (result ≤ 128) }
 {
-    (0..128).filter(|j| names_record(t, *j, r)).count()
+    let mut n = 0;
+    for j in 0..128 {
+        n += usize::from(names_record(t, j, r));
+    }
+    n
 }

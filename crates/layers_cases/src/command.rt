@@ -3,7 +3,6 @@ use text::words;
 
 #[derive(Clone, Copy)]
 pub enum Command<'a> {
-    Silent,
     Heading,
     Table,
     Size(usize),
@@ -22,22 +21,20 @@ pub enum Command<'a> {
 
 impl<'a> From<&'a [u8]> for Command<'a> {
     fn from(line: &'a [u8]) -> Command<'a> {
-        let first = words::word(line, 1);
-        let second = words::word(line, 2);
-        match words::word(line, 0) {
-            _ if words::is_silent(line) => Command::Silent,
+        let word = |k| words::word(line, k);
+        match word(0) {
             b"==" => Command::Heading,
             b"table" => Command::Table,
-            b"size" => Command::Size(words::place(first)),
+            b"size" => Command::Size(words::place(word(1))),
             b"valid" => Command::Valid,
-            b"malformed" => Command::Malformed(first),
-            b"order" => Command::Order(first, second),
-            b"search" => Command::Search(words::byte(first), second),
+            b"malformed" => Command::Malformed(word(1)),
+            b"order" => Command::Order(word(1), word(2)),
+            b"search" => Command::Search(words::byte(word(1)), word(2)),
             b"free" => Command::Free,
-            b"naming" => Command::Naming(words::byte(first)),
-            b"read" => Command::Read(words::place(first)),
-            b"drop" => Command::Drop(words::place(first)),
-            b"write" => Command::Write(words::place(first), words::number(second)),
+            b"naming" => Command::Naming(words::byte(word(1))),
+            b"read" => Command::Read(words::place(word(1))),
+            b"drop" => Command::Drop(words::place(word(1))),
+            b"write" => Command::Write(words::place(word(1)), words::number(word(2))),
             _ => Command::Item,
         }
     }

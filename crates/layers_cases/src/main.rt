@@ -7,24 +7,23 @@ mod questions;
 use command::Command;
 use layers::items::Table;
 use std::io::{Result, Write};
-use text::encode;
 use text::output::{self, Output};
+use text::{encode, memory, words};
 
-// The table in hand, and how many of its bytes, and of one behind it, `valid` is asked of.
+// The table in hand and a byte behind it, and of how many of these bytes `valid` is asked.
 #[derive(Drop)]
 struct Desk {
-    table: Table,
+    bytes: [u8; 8193],
     size: usize,
 }
 
 impl Desk {
     // Does what a line says.
     fn act(&mut self, out: &mut impl Write, line: &[u8]) -> Result<()> {
-        let t = &mut self.table;
+        let t: &mut Table = self.bytes.first_chunk_mut().unwrap();
         match Command::from(line) {
-            Command::Silent => {}
             Command::Heading => output::write_heading(out, line)?,
-            Command::Valid => questions::valid(out, t, self.size, line)?,
+            Command::Valid => questions::valid(out, memory::first(&self.bytes, self.size), line)?,
             Command::Malformed(name) => questions::malformed(out, name)?,
             Command::Order(x, y) => questions::order(out, x, y)?,
             Command::Search(parent, name) => questions::search(out, t, parent, name, line)?,
@@ -49,10 +48,11 @@ fn main() {
     let mut script = io::large_buffer();
     let n = io::read_full(0, &mut script);
     let mut desk = Desk {
-        table: [0; 8192],
+        bytes: [0; 8193],
         size: 8192,
     };
     let _ = script[..n]
         .split(|b| *b == b'\n')
+        .filter(|line| !words::is_silent(line))
         .try_for_each(|line| desk.act(&mut Output::Standard, line));
 }

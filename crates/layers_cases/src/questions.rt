@@ -4,7 +4,7 @@ use layers::items::Table;
 use std::cmp::Ordering;
 use std::fmt;
 use std::io::{Result, Write};
-use text::{memory, names, output, words};
+use text::{names, output, words};
 
 // The rest of a line behind its verb.
 fn rest(line: &[u8]) -> &[u8] {
@@ -24,11 +24,9 @@ impl fmt::Display for Place {
     }
 }
 
-// `valid LABEL`: whether the first `size` bytes of the table and one behind it keep every table rule.
-pub fn valid(out: &mut impl Write, t: &Table, size: usize, line: &[u8]) -> Result<()> {
-    let mut bytes = [0; 8193];
-    bytes[..8192].copy_from_slice(t);
-    out.write_all(if layers::rules::valid(memory::first(&bytes, size)) {
+// `valid LABEL`: whether the bytes keep every table rule.
+pub fn valid(out: &mut impl Write, t: &[u8], line: &[u8]) -> Result<()> {
+    out.write_all(if layers::rules::valid(t) {
         b"valid   "
     } else {
         b"refused "

@@ -3,7 +3,6 @@ use text::words;
 
 #[derive(Clone, Copy)]
 pub enum Command<'a> {
-    Silent,
     Heading,
     Layers { upper: bool, lower: usize },
     Layer(usize),
@@ -21,24 +20,22 @@ pub enum Command<'a> {
 
 impl<'a> From<&'a [u8]> for Command<'a> {
     fn from(line: &'a [u8]) -> Command<'a> {
-        let first = words::number_at(line, 1);
-        let second = words::number_at(line, 2);
+        let number = |k| words::number_at(line, k);
         match words::word(line, 0) {
-            _ if words::is_silent(line) => Command::Silent,
             b"==" => Command::Heading,
             b"layers" => Command::Layers {
-                upper: first != 0,
-                lower: second as usize,
+                upper: number(1) != 0,
+                lower: number(2) as usize,
             },
-            b"layer" => Command::Layer(first as usize),
+            b"layer" => Command::Layer(number(1) as usize),
             b"root" => Command::Root,
-            b"load" => Command::Load(first),
-            b"look" => Command::Look(first),
+            b"load" => Command::Load(number(1)),
+            b"look" => Command::Look(number(1)),
             b"forget" => Command::Forget {
-                number: first,
-                amount: second,
+                number: number(1),
+                amount: number(2),
             },
-            b"next" => Command::Next(first),
+            b"next" => Command::Next(number(1)),
             b"nodes" => Command::Nodes,
             b"count" => Command::Count,
             b"stack" => Command::Stack(words::word(line, 1)),

@@ -9,6 +9,7 @@ use command::Command;
 use std::io::{Result, Write};
 use tables::Tables;
 use text::output::{self, Output};
+use text::words;
 
 // The state and the tables, and the layer that the next lines fill.
 #[derive(Drop)]
@@ -23,7 +24,6 @@ impl Desk {
     fn act(&mut self, out: &mut impl Write, line: &[u8]) -> Result<()> {
         let Desk { state, tables, .. } = self;
         match Command::from(line) {
-            Command::Silent => {}
             Command::Heading => output::write_heading(out, line)?,
             Command::Layers { upper, lower } => tables.set_layers(upper, lower),
             Command::Layer(layer) => self.layer = layer,
@@ -56,5 +56,6 @@ fn main() {
     };
     let _ = script[..n]
         .split(|b| *b == b'\n')
+        .filter(|line| !words::is_silent(line))
         .try_for_each(|line| desk.act(&mut Output::Standard, line));
 }

@@ -45,7 +45,6 @@ impl Call {
 
 #[derive(Drop)]
 pub enum Command {
-    Silent,
     Heading,
     Layers { upper: bool, lower: usize },
     Layer(usize),
@@ -61,7 +60,6 @@ impl From<&[u8]> for Command {
     fn from(line: &[u8]) -> Command {
         let place = |k| words::place(words::word(line, k));
         match words::word(line, 0) {
-            _ if words::is_silent(line) => Command::Silent,
             b"==" => Command::Heading,
             b"layers" => Command::Layers {
                 upper: place(1) != 0,

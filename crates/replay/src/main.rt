@@ -11,7 +11,7 @@ mod writes;
 use command::{Call, Command, Lengths};
 use std::io::{Result, Write};
 use text::output::{self, Output};
-use text::{encode, memory};
+use text::{encode, memory, words};
 
 // The memory that calls are lent parts of, the layer that the next lines fill, and whether what a call left is shown.
 #[derive(Drop)]
@@ -82,7 +82,6 @@ impl Desk {
     // Does what a line says.
     fn act(&mut self, out: &mut impl Write, line: &[u8]) -> Result<()> {
         match Command::from(line) {
-            Command::Silent => {}
             Command::Heading => output::write_heading(out, line)?,
             Command::Layers { upper, lower } => self.set_layers(upper, lower),
             Command::Layer(layer) => self.layer = layer,
@@ -103,5 +102,6 @@ fn main() {
     let mut desk = Desk::new();
     let _ = script[..n]
         .split(|b| *b == b'\n')
+        .filter(|line| !words::is_silent(line))
         .try_for_each(|line| desk.act(&mut Output::Standard, line));
 }

@@ -1,11 +1,38 @@
 // A line's words, and numbers in words.
+ghost use Rattle.std.specs.Prelude.{◌≤◌, length};
 
-// The word with number `k`, counted from 0; past the last it is empty.
+// Past the spaces from `a` on.
+fn past_spaces(s: &[u8], a: usize) -> usize
+    ensures { result ≤ length s.now }
+{
+    for i in a..s.len() {
+        if s[i] != b' ' {
+            return i;
+        }
+    }
+    s.len()
+}
+
+// The end of the word that starts at `a`.
+fn word_end(s: &[u8], a: usize) -> usize
+    requires { a ≤ length s.now }
+    ensures { (a ≤ result) × (result ≤ length s.now) }
+{
+    for i in a..s.len() {
+        if s[i] == b' ' {
+            return i;
+        }
+    }
+    s.len()
+}
+
+// The word with number `k`, counted from 0; past the last it is empty. A `split` at each space would stop at every one of many in a row.
 pub fn word(s: &[u8], k: usize) -> &[u8] {
-    s.split(|b| *b == b' ')
-        .filter(|w| !w.is_empty())
-        .nth(k)
-        .unwrap_or(b"")
+    let mut a = past_spaces(s, 0);
+    for _ in 0..k {
+        a = past_spaces(s, word_end(s, a));
+    }
+    &s[a..word_end(s, a)]
 }
 
 // A line that says nothing: empty, or a comment.

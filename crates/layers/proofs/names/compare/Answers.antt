@@ -1,7 +1,8 @@
-use mathlib.Core.Path.{◌≡◌}
+use mathlib.Core.Path.{◌≡◌, sym, ◌∙◌}
 use Prim.Native.Nat.{◌+◌, ◌*◌, ◌/◌}
 use native.Mathlib.Omega.{arith}
 use Rattle.layers.proofs.OrderWords.{word_differs, word_on, rest_order}
+use Rattle.layers.proofs.OrderLaws.{order_as}
 use Rattle.layers.proofs.WordLaws.{lent_bytes}
 use borrow.Author.Rules.{rules}
 use Rattle.layers.proofs.names.compare.Goals as goal
@@ -17,4 +18,4 @@ loop-i-preserved c =
 pub returns : goal.returns
 returns c =
     let k : c.loop-i.i ≡ c.min-n.result / 4 = omega arith in
-    rest_order c.args.a.now c.args.b.now (4 * (c.min-n.result / 4)) c.cmp-2.result (omega arith) (omega arith) c.cmp-2.ensures (rw k at c.loop-i.invariant)
+    rest_order c.args.a.now c.args.b.now (4 * (c.min-n.result / 4)) c.compare_bytes.result (omega arith) (omega arith) (c.compare_bytes.ensures ∙ sym (order_as _ _)) (rw k at c.loop-i.invariant)

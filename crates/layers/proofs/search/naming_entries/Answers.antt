@@ -1,19 +1,19 @@
-use mathlib.Core.Path.{◌≡◌, refl, sym, ◌∙◌}
+use mathlib.Core.Path.{◌≡◌}
+use Prim.Native.Nat.{◌≤◌}
 use native.Mathlib.Omega.{arith}
-use Rattle.std.proofs.lemmas.Iterator.{YieldsList-from_range}
-use Rattle.std.proofs.lemmas.Iterator.Consumers.{YieldsList-at, YieldsList-from_filter, count_from_yields_List}
 use Rattle.layers.specs.Items.{entries_of, entry_at, free_entry}
-use Rattle.layers.specs.Search.{count_if, names_record}
+use Rattle.layers.specs.Search.{names_record, naming}
 use Rattle.layers.proofs.ItemLaws.{length_entries}
-use Rattle.layers.proofs.CountLaws.{count_below}
-use Rattle.layers.proofs.Ranges.{passing_in}
-use borrow.Author.Rules.{rules}
-use borrow.Author.Tests.{tests}
+use Rattle.layers.proofs.CountLaws.{count_next, count_end, counts_one, counts_at_most}
 use Rattle.layers.proofs.search.naming_entries.Goals as goal
 
+pub loop-j-preserved : goal.loop-j-preserved
+loop-j-preserved c =
+    let p = names_record c.args.r in
+    let es = entries_of c.args.t.now in
+    let b = p (entry_at es c.loop-j.j) in
+    let small : c.from-n.result ≤ 1 = counts_at_most c.from-n.result c.names_record.result b c.from-n.ensures c.names_record.ensures in
+    (omega arith, count_next p es free_entry c.loop-j.j c.loop-j.n (naming c.args.r es) c.from-n.result 128 (counts_one c.from-n.result c.names_record.result b c.from-n.ensures c.names_record.ensures) (length_entries c.args.t.now) c.loop-j-test.true c.loop-j.invariant.1)
+
 pub returns : goal.returns
-returns c =
-    let n : c.count.result ≡ count_if (names_record c.args.r) (entries_of c.args.t.now) =
-    count_from_yields_List c.filter.result _ c.count.ensures.ran (YieldsList-from_filter _ (λ j. (names_record c.args.r) (entry_at (entries_of c.args.t.now) j)) (YieldsList-at c.filter.ensures.source (YieldsList-from_range 0 128 128 refl refl)) c.filter.ensures.closure (λ x b q k. search (rules, tests)))
-    ∙ passing_in (names_record c.args.r) free_entry (entries_of c.args.t.now) 128 0 (sym (length_entries c.args.t.now)) in
-    (n, omega (arith, n, count_below (names_record c.args.r) (entries_of c.args.t.now), length_entries c.args.t.now))
+returns c = (count_end (names_record c.args.r) (entries_of c.args.t.now) free_entry c.loop-j.j c.loop-j.n (naming c.args.r (entries_of c.args.t.now)) 128 (length_entries c.args.t.now) (omega arith) c.loop-j.invariant.1, omega arith)
