@@ -1,4 +1,5 @@
-// The exported C functions: a slice is a pointer and then a length. Each calls the function of its name in the library.
+// The exported C functions: a slice is a pointer and then a length. Each calls the function of its name in `calls::face`, which stands in a crate of its
+// own, as a crate is a library or a static library, never both.
 #![tactic(auto)]
 
 ghost use Rattle.std.specs.Prelude.{◌≡◌};

@@ -167,7 +167,7 @@ pub halved_end : (f : ℕ → Name) (p : List ℕ) (x : Name) (s : Option ℕ) (
 unfolding spot_from
 halved_end f p x s lo hi h l = let e : hi - lo ≡ 0 = omega arith in sym (rw e refl) ∙ h.answers
 
-module _ (f : ℕ → Name) (p : List ℕ) (x : Name) (s : Option ℕ) (lo hi mid : ℕ) (h : Halved f p x s lo hi) (g : length p ≡ 512) (b : hi ≤ 512) (lt : lo < hi) (mid_is : mid ≡ lo + (hi - lo) / 2) (y : Name) (y_is : y ≡ f (get_or p mid 0)) (o : Ordering) (o_is : o ≡ order_of x y) where
+module _ (f : ℕ → Name) (p : List ℕ) (x : Name) (s : Option ℕ) (lo hi mid : ℕ) (h : Halved f p x s lo hi) (b : hi ≤ length p) (lt : lo < hi) (mid_is : mid ≡ lo + (hi - lo) / 2) (y : Name) (y_is : y ≡ f (get_or p mid 0)) (o : Ordering) (o_is : o ≡ order_of x y) where
   abbrev ls : List ℕ
   ls = part p lo (mid - lo)
 

@@ -31,7 +31,7 @@ fn spot_of(t: &Table, p: &[u16; 512], n: usize, j: usize) -> Option<usize>
     requires { (n ≤ 512) × Sorted (place_key (entries_of t.now)) (take n p.now) }
     ensures { result ≡ spot_from (place_key (entries_of t.now)) 0 (place_key (entries_of t.now) j) (take n p.now) }
 {
-    spots::spot_among(p, n, |q| compare_places(t, j, usize::from(q)))
+    spots::spot_among(&p[..n], |q| compare_places(t, j, usize::from(q)))
 }
 
 // Puts the entry place `j` where it belongs among the first `n`, unless its parent and name stand there.

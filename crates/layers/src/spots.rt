@@ -1,19 +1,19 @@
 // Places kept in the order of what they stand for.
-ghost use Rattle.std.specs.Prelude.{◌≡◌, ℕ, ◌≤◌, take};
+ghost use Rattle.std.specs.Prelude.{◌≡◌, ℕ};
 ghost use Rattle.layers.specs.Names.{Name};
 ghost use Rattle.layers.specs.Order.{put_in, spot_from, Tells};
 ghost use Rattle.layers.specs.Sorted.{Sorted};
 
 use std::cmp::Ordering;
 
-// Where a name belongs among the first `n` places, which stand in the order of their names, none where it stands there; `order` says how it stands to a place's.
+// Where a name belongs among places that stand in the order of their names, none where it stands there; `order` says how it stands to a place's.
 // A loop and no `binary_search_by`: that goes on where the name is met, which a directory's second layer meets at most names.
-pub fn spot_among<F: Fn(u16) -> Ordering>(p: &[u16; 512], n: usize, order: F) -> Option<usize>
-    requires { (n ≤ 512) × F.IsAlwaysCallable order }
-    ensures { (f : ℕ → Name) (x : Name) → Tells (F.post order) f x → Sorted f (take n p.now) → result ≡ spot_from f 0 x (take n p.now) }
+pub fn spot_among<F: Fn(u16) -> Ordering>(p: &[u16], order: F) -> Option<usize>
+    requires { F.IsAlwaysCallable order }
+    ensures { (f : ℕ → Name) (x : Name) → Tells (F.post order) f x → Sorted f p.now → result ≡ spot_from f 0 x p.now }
 {
     let mut lo = 0;
-    let mut hi = n;
+    let mut hi = p.len();
     while lo < hi {
         let mid = lo + (hi - lo) / 2;
         match order(p[mid]) {

@@ -160,7 +160,7 @@ fn lay_numbers(t: &mut [u8], a: usize, n: Node)
     layers::bytes::put_number(t, a + 8, n.count);
 }
 
-// Likewise.
+// The four written out, as in `pair_bytes` of specs/, for the reason given at `stack_of`.
 #[tactic(auto, unfolding(crate::specs::Nodes::pair_bytes))]
 fn pair_bytes(ps: [Pair; 4]) -> [u8; 8]
     ensures { (result ≡ pair_bytes ps) × (length ps ≡ 4) }

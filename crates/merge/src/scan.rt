@@ -48,7 +48,7 @@ fn position(ls: Layers<'_>, p: &[u16; 512], n: usize, x: &[u8]) -> Option<usize>
     requires { (n ≤ 512) × Sorted (place_name ls.upper.now ls.lower.now) (take n p.now) }
     ensures { result ≡ spot_from (place_name ls.entry.upper.now ls.entry.lower.now) 0 x.now (take n p.now) }
 {
-    layers::spots::spot_among(p, n, |q| layers::names::compare(x, ls.place_name(q)))
+    layers::spots::spot_among(&p[..n], |q| layers::names::compare(x, ls.place_name(q)))
 }
 
 // Puts the place `q` among the first `n`, which stand in order of their names; answers how many there are then.

@@ -1,4 +1,3 @@
-use mathlib.Core.Path.{◌≡◌}
 use Prim.Native.Nat.{◌≤◌}
 use native.Mathlib.Omega.{arith}
 use Rattle.layers.specs.Items.{entries_of, entry_at, free_entry}
