@@ -3,7 +3,8 @@ ghost use Rattle.std.specs.Prelude.{◌≤◌, length};
 
 // Past the spaces from `a` on.
 fn past_spaces(s: &[u8], a: usize) -> usize
-    ensures { result ≤ length s.now }
+    requires { a ≤ length s.now }
+    ensures { (a ≤ result) × (result ≤ length s.now) }
 {
     for i in a..s.len() {
         if s[i] != b' ' {
