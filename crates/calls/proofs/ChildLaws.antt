@@ -76,12 +76,15 @@ module _ (o limit i at : ℕ) (t u l : List ℕ) (x : ℕ) (ns : List Node) (k :
     pub children_white : not b ≡ false → fill o limit i at t (child_dirents u l x (drop (j + 1) ns)) ≡ z
     children_white e = ap (fill o limit i at t) (sym (white_child ns x k f f_is j h u l n n_is b b_is (not-false b e))) ∙ inv
 
-    module _ (e : not b ≡ true) (y : Name) (y_is : y ≡ node_name n) (r : Option ℕ) (v : List ℕ) (answer : r ≡ entry_answer o limit t at i (dirent_of u l y n)) (written : v ≡ entry_over o limit t at i (dirent_of u l y n)) where
+    module _ (e : not b ≡ true) (y : Name) (y_is : y ≡ node_name (node_at ns j)) (r : Option ℕ) (v : List ℕ) (answer : r ≡ entry_answer o limit t at i (dirent_of u l y n)) (written : v ≡ entry_over o limit t at i (dirent_of u l y n)) where
+      named : y ≡ node_name n
+      named = y_is ∙ ap node_name (sym n_is)
+
       p : r ≡ entry_answer o limit t at i (dirent_of u l (node_name n) n)
-      p = answer ∙ ap (λ x. entry_answer o limit t at i (dirent_of u l x n)) y_is
+      p = answer ∙ ap (λ x. entry_answer o limit t at i (dirent_of u l x n)) named
 
       q : v ≡ entry_over o limit t at i (dirent_of u l (node_name n) n)
-      q = written ∙ ap (λ x. entry_over o limit t at i (dirent_of u l x n)) y_is
+      q = written ∙ ap (λ x. entry_over o limit t at i (dirent_of u l x n)) named
 
       left : fill o limit i at t (dirent_of u l (node_name n) n ∷ child_dirents u l x (drop (j + 1) ns)) ≡ z
       left = ap (fill o limit i at t) (sym (live_child ns x k f f_is j h u l n n_is b b_is (not-true b e))) ∙ inv

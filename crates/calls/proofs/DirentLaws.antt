@@ -1,6 +1,6 @@
 -- The bytes of an entry of a listing, as the code writes them, and how many they are. Assumes nothing.
 use Rattle.std.specs.Prelude.{Option, Some, None, SomeIff}
-use mathlib.Core.Path.{◌≡◌, refl, ap, ◌∙◌}
+use mathlib.Core.Path.{◌≡◌, refl, sym, ap, ◌∙◌}
 use mathlib.Core.Bool.{Bool, true, false}
 use Prim.Native.Nat.{ℕ, zero, suc, ◌+◌, ◌-◌, ◌%◌, ◌≤◌, ◌<◌}
 use native.Mathlib.Omega.{arith}
@@ -10,7 +10,8 @@ use lib.ListN.{length, take, replicate, length-append, length-replicate}
 use borrow.Author.Tests.{le-leb, lt-leb, ltb-true, ltb-false}
 use Rattle.layers.specs.Bytes.{least, over, le_bytes, laid}
 use Rattle.layers.specs.Names.{Name}
-use Rattle.layers.proofs.Numbers.{le_low, length_le}
+use Rattle.std.proofs.lemmas.List.{append-nil}
+use Rattle.layers.proofs.Numbers.{le_low, length_le, laid_in}
 use Rattle.layers.proofs.ItemLaws.{two_laid, laid_next}
 use Rattle.calls.specs.Dirents.{dirent, padding, dirent_size, dirent_bytes, put_answer, put_dirent}
 
@@ -36,6 +37,10 @@ pub name_laid : (t t₁ t₂ : List ℕ) (a : ℕ) (x : Name) (p : ℕ) → a + 
     → t₂ ≡ over t a (x ++ replicate p 0)
 name_laid t t₁ t₂ a x p h l q r =
     two_laid t t₁ t₂ a (length x) x (replicate p 0) refl (rw (length-replicate {A = ℕ} p 0) (omega arith)) q (r ∙ ap (laid t₁ (a + length x)) (zeros_cut 8 p (omega arith)))
+
+-- no zeros behind it
+pub name_alone : (t t₁ : List ℕ) (a : ℕ) (x : Name) (p : ℕ) → a + length x + p ≤ length t → p ≡ 0 → t₁ ≡ laid t a x → t₁ ≡ over t a (x ++ replicate p 0)
+name_alone t t₁ a x p h z q = q ∙ (laid_in t a x (omega arith) ∙ ap (over t a) (rw z (sym (append-nil x))))
 
 module _ (t t₁ t₂ t₃ : List ℕ) (a inode index kind : ℕ) (x : Name) (p : ℕ) where
   pub dirent_laid : a + 24 + length x + padding (length x) ≤ length t → p ≡ padding (length x) → t₁ ≡ over t a (le_bytes 8 inode ++ le_bytes 8 (index + 1))

@@ -30,9 +30,11 @@ fn lay_name(buf: &mut [u8], a: usize, x: &[u8], p: usize)
     requires { (a + length x.now + p ≤ length buf.old) × (p < 8) }
     ensures { buf.new ≡ over buf.old a (x.now ++ replicate p 0) }
 {
-    let z = [0u8; 8];
     layers::bytes::lay(buf, a, x);
-    layers::bytes::lay(buf, a + x.len(), &z[..p]);
+    // A call to lay no bytes is a tenth of an entry's time.
+    if p != 0 {
+        layers::bytes::lay(buf, a + x.len(), &[0u8; 8][..p]);
+    }
 }
 
 fn lay_dirent(buf: &mut [u8], a: usize, inode: u64, index: u64, kind: u8, name: &[u8])

@@ -70,7 +70,7 @@ fn put_children(buf: &mut [u8], start: usize, w: Window, s: &[u8], ls: Layers<'_
         k = j + 1;
         let n = state::node_at(s, j);
         if !parent::is_white(n) {
-            let Some(next) = put_entry(buf, at, w, i, ls, n, n.name_bytes()) else {
+            let Some(next) = put_entry(buf, at, w, i, ls, n, state::name_at(s, j)) else {
                 return Page {
                     bytes: at,
                     remains: true,

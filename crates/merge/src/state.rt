@@ -61,6 +61,13 @@ fn name_in(b: &Bytes) -> &[u8]
     &b[24..24 + usize::from(b[15].min(28))]
 }
 
+// The name of the node at place `j`, in place; where there is none, no bytes, which is no node's name.
+pub fn name_at(s: &[u8], j: usize) -> &[u8]
+    ensures { result.now ≡ node_name (node_at (nodes_of s.now) j) }
+{
+    nodes(s).get(j).map_or(&[], name_in)
+}
+
 // ---- searches: each walks the nodes that there are
 
 #[tactic(auto, unfolding(crate::specs::State::is_number))]
