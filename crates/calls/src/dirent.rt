@@ -31,7 +31,7 @@ fn lay_name(buf: &mut [u8], a: usize, x: &[u8], p: usize)
     ensures { buf.new ≡ over buf.old a (x.now ++ replicate p 0) }
 {
     layers::bytes::lay(buf, a, x);
-    // A call to lay no bytes is a tenth of an entry's time.
+    // To lay no bytes is a call too, a seventh of an entry's instructions.
     if p != 0 {
         layers::bytes::lay(buf, a + x.len(), &[0u8; 8][..p]);
     }

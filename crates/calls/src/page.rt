@@ -37,7 +37,7 @@ fn type_of(ls: Layers<'_>, p: Pair) -> u8
     layers::search::kind_at(t, usize::from(p.number))
 }
 
-// The entry of the node `n` under a name; one below the offset is passed over. Inlined, as a call at each entry would copy the node, and a listing take half as long again.
+// The entry of the node `n` under a name; one below the offset is passed over. Inlined, as a call at each entry copies the node, and a listing takes up to twice as long.
 #[inline(always)]
 fn put_entry(
     buf: &mut [u8],

@@ -61,7 +61,7 @@ fn name_in(b: &Bytes) -> &[u8]
     &b[24..24 + usize::from(b[15].min(28))]
 }
 
-// The name of the node at place `j`, in place; where there is none, no bytes, which is no node's name.
+// The name of the node at place `j`, in place; where there is none, no bytes, the name that `no_node` of specs/ has.
 pub fn name_at(s: &[u8], j: usize) -> &[u8]
     ensures { result.now ≡ node_name (node_at (nodes_of s.now) j) }
 {
